@@ -1,0 +1,8 @@
+pub mod Polynomials
+pub mod Numbers
+pub mod Parity
+pub mod Tests
+pub mod Distance
+pub mod Shifts
+pub mod Folded
+pub mod Runs
