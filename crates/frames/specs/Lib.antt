@@ -1,1 +1,8 @@
 pub mod Words
+pub mod Rows
+pub mod Blocks
+pub mod Master
+pub mod Slave
+pub mod Line
+pub mod Answers
+pub mod Accepted

@@ -1,0 +1,62 @@
+// Blocks of data, each followed by its check sequence.
+ghost use mathlib.Core.Path.{_≡_};
+ghost use mathlib.Core.List.{_++_};
+ghost use Prim.Native.Nat.{_+_, _*_, _≤_};
+ghost use lib.ListN.{length, drop};
+ghost use Rattle.frames.specs.Blocks.{rightBlocks, dataIn, framed};
+
+// How many of so many blocks of `size` bytes, from the first, are followed by their check sequence.
+pub(crate) fn right_blocks(frame: &[u8], count: usize, size: usize) -> usize
+    requires { ⌜ count * (size + 1) ≤ length (now frame) ⌝ }
+    ensures { λ r. ⌜ r ≡ rightBlocks count size (now (frame .entry)) ⌝ }
+{
+    let mut at: usize = 0;
+    let mut right: usize = 0;
+    while right < count {
+        let end = at + size;
+        let check = checks::check_of(&frame[at..end]);
+        if check != frame[end] {
+            return right;
+        }
+        at = end + 1;
+        right += 1;
+    }
+    right
+}
+
+// The data of so many blocks of `size` bytes, at the start of `out`.
+pub(crate) fn copy_blocks(frame: &[u8], count: usize, size: usize, out: &mut [u8])
+    requires { ⌜ (count * (size + 1) ≤ length (now frame)) × (count * size ≤ length (now out)) ⌝ }
+    ensures { λ _. ⌜ now (out .exit) ≡ dataIn count size (now (frame .entry)) ++ drop (count * size) (now (out .entry)) ⌝ }
+{
+    let mut at: usize = 0;
+    let mut to: usize = 0;
+    let mut left = count;
+    while 0 < left {
+        let end = at + size;
+        bytes::copy(&frame[at..end], &mut out[to..]);
+        at = end + 1;
+        to += size;
+        left -= 1;
+    }
+}
+
+// The frame of so many blocks of `size` bytes of data, at the start of `out`.
+pub(crate) fn write_blocks(data: &[u8], count: usize, size: usize, out: &mut [u8])
+    requires { ⌜ (count * size ≤ length (now «data»)) × (count * (size + 1) ≤ length (now out)) ⌝ }
+    ensures { λ _. ⌜ now (out .exit) ≡ framed count size (now («data» .entry)) ++ drop (count * (size + 1)) (now (out .entry)) ⌝ }
+{
+    let mut at: usize = 0;
+    let mut to: usize = 0;
+    let mut left = count;
+    while 0 < left {
+        let end = at + size;
+        bytes::copy(&data[at..end], &mut out[to..]);
+        let check = checks::check_of(&data[at..end]);
+        let last = to + size;
+        out[last] = check;
+        at = end;
+        to = last + 1;
+        left -= 1;
+    }
+}
