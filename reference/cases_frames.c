@@ -1,6 +1,6 @@
 /* Cases of frames: records of 48 bytes, each a call and what it is lent. */
 #include "cases.h"
-#include "mvb_ref.h"
+#include "seeded.h"
 
 #include <string.h>
 

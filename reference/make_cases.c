@@ -31,8 +31,13 @@ static int write_cases(void (*make)(struct cases *), const char *dir)
 
 int main(int argc, char **argv)
 {
-    if (argc == 3 && strcmp(argv[1], "frames") == 0)
-        return write_cases(cases_frames, argv[2]);
-    fprintf(stderr, "usage: make_cases frames DIR\n");
+    static const struct {
+        const char *name;
+        void (*make)(struct cases *);
+    } kinds[] = {{"frames", cases_frames}, {"rounds", cases_rounds}};
+    for (size_t i = 0; argc == 3 && i < sizeof kinds / sizeof kinds[0]; i++)
+        if (strcmp(argv[1], kinds[i].name) == 0)
+            return write_cases(kinds[i].make, argv[2]);
+    fprintf(stderr, "usage: make_cases frames|rounds DIR\n");
     return 2;
 }

@@ -88,4 +88,58 @@ int ref_telegram_bits(unsigned f_code, unsigned gap, uint32_t *bits);
  * at most that many, no (0) otherwise: 3, 6. */
 int ref_guard(uint32_t left, unsigned gap, unsigned f_code, int *yes);
 
+/* The event round --------------------------------------------------------- */
+
+/* Whether a device is of the group {M, C}: its low 12 - M address bits are C. */
+int ref_in_group(unsigned m, unsigned c, unsigned address);
+
+/* The request for {M, C}, M at most 12 and C below 2^(12-M): for M = 12
+ * F_code 9 over the parameter bits; for M 1 to 11 F_code 13 over M - 1 ones, a
+ * zero and the 12 - M bits of C; for M = 0 F_code 14 over the device address. */
+uint16_t ref_request_word(unsigned m, unsigned c, unsigned params);
+
+/* A round. Phase 0 waits for the answer to a request, 1 for the answer to a
+ * read, anything else has ended. */
+struct ref_round {
+    uint16_t phase, m, c, requests, reads, unresolved;
+};
+
+/* What a step hands back: the new round with the next word, or its end, whose
+ * counts are the round's. */
+struct ref_stepped {
+    int ended;
+    uint16_t word; /* 0 at the end */
+    struct ref_round round;
+};
+
+/* The start hands back the round and its first word: 6 for parameter bits of
+ * 4,096 or more. */
+int ref_round_start(unsigned params, struct ref_stepped *to);
+
+/* A step takes the old round and the line's answer. A step on an ended round
+ * answers the end again, the round unchanged; that comes first. 18 for rounds
+ * that have not ended, and only for these: M above 12, C not below 2^(12-M),
+ * reads plus unresolved above requests, more than 8,190 requests counted while
+ * one is still to be asked or answered. */
+int ref_round_step(struct ref_round old, struct ref_answer answer, struct ref_stepped *to);
+
+/* A line: what it answers to a word that is handed out. */
+typedef struct ref_answer (*ref_line_of)(void *line, uint16_t word);
+
+/* The three counts of a round. */
+struct ref_counts {
+    uint32_t requests, reads, unresolved;
+};
+
+/* A whole round on a line, kept as a stack of the groups still to ask: 6. */
+int ref_whole_round(unsigned params, ref_line_of answer_of, void *line,
+                    struct ref_counts *counts);
+
+/* The search as the rule reads, over a lent set of 512 bytes (address a is bit
+ * a mod 8 of byte a div 8): ask, and on a collision ask both halves. The read
+ * order goes to the lent output: 1 for a set of another length, 4 exactly if
+ * there are fewer places than devices. `unresolved` of the counts is 0. */
+int ref_search(const uint8_t *set, size_t len, uint16_t *out, size_t places,
+               struct ref_counts *counts);
+
 #endif

@@ -1,6 +1,6 @@
 /* Unit tests of the second program: every hand line of document 01, its tables
  * as they stand there, and each way out of each function. */
-#include "mvb_ref.h"
+#include "seeded.h"
 
 #include <stdio.h>
 #include <string.h>
@@ -196,6 +196,227 @@ static void test_timing(void)
     CHECK(ref_guard(4294967295u, 4, 15, &yes) == 0 && yes == 1);
 }
 
+/* The event round --------------------------------------------------------- */
+
+static void test_group_words(void)
+{
+    CHECK(ref_request_word(12, 0, 0x100) == 0x9100);
+    CHECK(ref_request_word(11, 0, 0) == 0xDFFC);
+    CHECK(ref_request_word(11, 1, 0) == 0xDFFD);
+    /* 001, 8.3.4.2, the figure: five ones, a zero, the six bits of C. */
+    CHECK(ref_request_word(6, 0x2A, 0) == 0xDF80 + 0x2A);
+    CHECK(ref_request_word(2, 0x3FF, 0) == 0xDBFF);
+    CHECK(ref_request_word(1, 0x7FF, 0) == 0xD7FF);
+    CHECK(ref_request_word(0, 0xFFF, 0) == 0xEFFF);
+    /* 001, 8.3.1, the example: {M = 4, C = 5}. */
+    CHECK(ref_in_group(4, 5, 0xF05) && ref_in_group(4, 5, 0x805) && ref_in_group(4, 5, 0x505));
+    CHECK(!ref_in_group(4, 5, 0xF04) && !ref_in_group(4, 5, 0xF85));
+    CHECK(ref_in_group(12, 0, 0xABC) && ref_in_group(0, 0xABC, 0xABC));
+}
+
+/* A line with its history: every word, of which those of F_code 12 are reads. */
+struct told_line {
+    struct seeded_line line;
+    unsigned requests, reads;
+    uint16_t read[4096];
+};
+
+static struct ref_answer tell(void *lent, uint16_t word)
+{
+    struct told_line *told = lent;
+    if (word / 4096 != 12)
+        told->requests++;
+    else if (told->reads < 4096)
+        told->read[told->reads++] = word % 4096;
+    return seeded_answer(&told->line, word);
+}
+
+static struct told_line line_of(enum line_kind kind, const uint16_t *devices, size_t k)
+{
+    struct told_line told = {.line = {.kind = kind, .x = 1, .hash = hash_start()}};
+    for (size_t i = 0; i < k; i++)
+        told.line.set[devices[i] / 8] |= (uint8_t)(1u << devices[i] % 8);
+    return told;
+}
+
+/* Plays the round by steps. After each step the counts are those of the
+ * history, the request that waits for its answer not among them. */
+static struct ref_counts play(struct told_line *told)
+{
+    struct ref_stepped s;
+    CHECK(ref_round_start(0x100, &s) == 0 && s.word == 0x9100 && !s.ended);
+    while (!s.ended) {
+        struct ref_answer answer = tell(told, s.word);
+        CHECK(told->requests == s.round.requests + (s.round.phase == 0 ? 1u : 0u));
+        CHECK(s.round.reads == told->reads);
+        if (ref_round_step(s.round, answer, &s) != 0) {
+            CHECK(!"a round from a start is refused");
+            break;
+        }
+    }
+    CHECK(s.round.requests == told->requests && s.round.m == 12 && s.round.c == 0);
+    return (struct ref_counts){s.round.requests, s.round.reads, s.round.unresolved};
+}
+
+static int same_counts(struct ref_counts a, struct ref_counts b)
+{
+    return a.requests == b.requests && a.reads == b.reads && a.unresolved == b.unresolved;
+}
+
+/* The whole round and the stepped one on the same line agree word for word. */
+static struct ref_counts play_both(const struct told_line *fresh, struct told_line *after)
+{
+    struct told_line stepped = *fresh;
+    struct ref_counts counts;
+    *after = *fresh;
+    CHECK(ref_whole_round(0x100, tell, after, &counts) == 0);
+    CHECK(same_counts(play(&stepped), counts));
+    CHECK(stepped.line.hash == after->line.hash && stepped.reads == after->reads);
+    CHECK(counts.requests == after->requests && counts.reads == after->reads);
+    CHECK(counts.requests <= 8191 && counts.reads <= 4096);
+    return counts;
+}
+
+static void hand_round(const uint16_t *devices, size_t k, uint32_t requests,
+                       const uint16_t *order)
+{
+    struct told_line fresh = line_of(TRUTHFUL, devices, k), after;
+    struct ref_counts counts = play_both(&fresh, &after), searched;
+    uint16_t out[8];
+    CHECK(counts.requests == requests && counts.reads == k && counts.unresolved == 0);
+    CHECK(memcmp(after.read, order, k * sizeof *order) == 0);
+    CHECK(ref_search(fresh.line.set, 512, out, k, &searched) == 0);
+    CHECK(same_counts(searched, counts) && memcmp(out, order, k * sizeof *order) == 0);
+}
+
+static void test_hand_rounds(void)
+{
+    hand_round((const uint16_t[]){0}, 0, 1, (const uint16_t[]){0});
+    hand_round((const uint16_t[]){0x005}, 1, 1, (const uint16_t[]){0x005});
+    hand_round((const uint16_t[]){0x001, 0x002}, 2, 3, (const uint16_t[]){0x002, 0x001});
+    hand_round((const uint16_t[]){0xF05, 0x805, 0x505}, 3, 21,
+               (const uint16_t[]){0x805, 0x505, 0xF05});
+    hand_round((const uint16_t[]){0x000, 0x800}, 2, 25, (const uint16_t[]){0x000, 0x800});
+
+    struct told_line fresh = line_of(ALWAYS_COLLISION, NULL, 0), after;
+    struct ref_counts counts = play_both(&fresh, &after);
+    CHECK(same_counts(counts, (struct ref_counts){8191, 0, 4096}));
+    fresh = line_of(ALWAYS_SILENCE, NULL, 0);
+    counts = play_both(&fresh, &after);
+    CHECK(same_counts(counts, (struct ref_counts){1, 0, 0}));
+}
+
+/* The twelve bits of an address, lowest first, as a number. */
+static unsigned lowest_first(unsigned address)
+{
+    unsigned number = 0;
+    for (unsigned bit = 0; bit < 12; bit++)
+        number |= ((address >> bit) & 1) << (11 - bit);
+    return number;
+}
+
+/* On a truthful line each device is read once, in its order, within the bound,
+ * and the search agrees. */
+static void truthful_round(unsigned k, unsigned shared, uint32_t seed)
+{
+    static uint16_t out[4096];
+    struct told_line fresh = line_of(TRUTHFUL, NULL, 0), after;
+    struct ref_counts searched;
+    seeded_set(fresh.line.set, k, shared, &seed);
+    fresh.line.x = seed;
+    struct ref_counts counts = play_both(&fresh, &after);
+    CHECK(counts.reads == k && counts.unresolved == 0);
+    CHECK(counts.requests <= 1 + 24 * (k / 2));
+    for (unsigned i = 0; i < k; i++) {
+        CHECK(fresh.line.set[after.read[i] / 8] >> after.read[i] % 8 & 1);
+        CHECK(i == 0 || lowest_first(after.read[i - 1]) < lowest_first(after.read[i]));
+    }
+    if (k > 0)
+        CHECK(ref_search(fresh.line.set, 512, out, k - 1, &searched) == REF_TOO_SHORT);
+    CHECK(ref_search(fresh.line.set, 512, out, k, &searched) == 0);
+    CHECK(same_counts(searched, counts) && memcmp(out, after.read, 2 * k) == 0);
+}
+
+static void test_seeded_rounds(void)
+{
+    uint32_t x = 0x5EED;
+    for (unsigned k = 0; k <= 4096; k += 1 + k / 16)
+        for (unsigned shared = 0; shared < 12 && k <= 4096u >> shared; shared++)
+            truthful_round(k, shared, random_next(&x));
+    truthful_round(4096, 0, 1);
+    for (unsigned kind = ANYTHING; kind <= AFTER_SILENCE; kind++)
+        for (unsigned k = 0; k < 100; k++) {
+            struct told_line fresh = line_of((enum line_kind)kind, NULL, 0), after;
+            fresh.line.x = random_next(&x);
+            seeded_set(fresh.line.set, k, 0, &fresh.line.x);
+            play_both(&fresh, &after);
+        }
+}
+
+/* One step of a round made by hand, on a collision. */
+static int steps_to(struct ref_round old, struct ref_stepped *to)
+{
+    return ref_round_step(old, (struct ref_answer){REF_COLLISION, 0}, to);
+}
+
+static void test_impossible_rounds(void)
+{
+    struct ref_stepped s = {7, 7, {7, 7, 7, 7, 7, 7}};
+    CHECK(ref_round_start(4096, &s) == REF_RANGE);
+    CHECK(steps_to((struct ref_round){0, 13, 0, 0, 0, 0}, &s) == REF_ROUND);
+    CHECK(steps_to((struct ref_round){0, 12, 1, 0, 0, 0}, &s) == REF_ROUND);
+    CHECK(steps_to((struct ref_round){1, 4, 256, 0, 0, 0}, &s) == REF_ROUND);
+    CHECK(steps_to((struct ref_round){0, 4, 5, 3, 2, 2}, &s) == REF_ROUND);
+    CHECK(steps_to((struct ref_round){0, 4, 5, 0, 32768, 32768}, &s) == REF_ROUND);
+    CHECK(steps_to((struct ref_round){0, 12, 0, 8191, 0, 0}, &s) == REF_ROUND);
+    CHECK(steps_to((struct ref_round){1, 0, 0, 8191, 1, 0}, &s) == REF_ROUND);
+    CHECK(s.ended == 7 && s.word == 7 && s.round.unresolved == 7 && s.round.phase == 7);
+    /* No group follows {0, FFF} or {12, 0}: no request is still to be asked. */
+    CHECK(steps_to((struct ref_round){1, 0, 4095, 8191, 1, 0}, &s) == 0 && s.ended);
+    CHECK(steps_to((struct ref_round){1, 12, 0, 65535, 65535, 0}, &s) == 0 && s.ended);
+    CHECK(s.round.requests == 65535 && s.round.reads == 65535);
+    /* 8,190 requests are not too many, even where more than one is left. */
+    CHECK(steps_to((struct ref_round){0, 12, 0, 8190, 0, 0}, &s) == 0 && !s.ended);
+    CHECK(s.word == 0xDFFC && s.round.requests == 8191);
+    /* A step on an ended round comes first, whatever else the round holds. */
+    CHECK(steps_to((struct ref_round){2, 99, 9999, 1, 2, 3}, &s) == 0 && s.ended);
+    CHECK(s.round.phase == 2 && s.round.m == 99 && s.round.c == 9999);
+    CHECK(s.round.requests == 1 && s.round.reads == 2 && s.round.unresolved == 3);
+}
+
+static void test_replies(void)
+{
+    struct ref_round at = {0, 4, 5, 10, 1, 1};
+    struct ref_stepped s;
+    CHECK(ref_round_step(at, (struct ref_answer){REF_REPLY, 0xCF05}, &s) == 0);
+    CHECK(s.word == 0xCF05 && s.round.phase == 1 && s.round.requests == 11 && s.round.reads == 2);
+    CHECK(ref_round_step(s.round, (struct ref_answer){REF_REPLY, 0xCF05}, &s) == 0);
+    /* {4, 05} is followed by {4, 85}: its highest common bit is 0. */
+    CHECK(s.round.phase == 0 && s.round.m == 4 && s.round.c == 0x85 && s.round.reads == 2);
+    CHECK(ref_round_step(at, (struct ref_answer){REF_REPLY, 0xCF04}, &s) == 0);
+    CHECK(s.round.m == 3 && s.round.c == 5 && s.round.reads == 1);
+    CHECK(ref_round_step(at, (struct ref_answer){REF_REPLY, 0xDF05}, &s) == 0);
+    CHECK(s.round.m == 3 && s.round.c == 5 && s.round.requests == 11);
+    at = (struct ref_round){0, 0, 0x7FF, 10, 1, 1};
+    /* {0, 7FF} is followed by {0, FFF}, and that by nothing. */
+    CHECK(ref_round_step(at, (struct ref_answer){REF_COLLISION, 0}, &s) == 0);
+    CHECK(s.round.unresolved == 2 && s.word == 0xEFFF);
+    CHECK(ref_round_step(s.round, (struct ref_answer){REF_SILENCE, 0}, &s) == 0);
+    CHECK(s.ended && s.round.requests == 12 && s.round.unresolved == 2);
+}
+
+static void test_search_refusals(void)
+{
+    uint8_t set[513] = {3};
+    uint16_t out[2] = {7, 7};
+    struct ref_counts counts = {9, 9, 9};
+    CHECK(ref_search(set, 511, out, 0, &counts) == REF_WRONG_LENGTH);
+    CHECK(ref_search(set, 513, out, 2, &counts) == REF_WRONG_LENGTH);
+    CHECK(ref_search(set, 512, out, 1, &counts) == REF_TOO_SHORT);
+    CHECK(out[0] == 7 && out[1] == 7 && counts.requests == 9 && counts.reads == 9);
+    CHECK(ref_search(set, 512, out, 2, &counts) == 0 && out[0] == 0 && out[1] == 1);
+}
+
 int main(void)
 {
     test_check_vectors();
@@ -210,6 +431,12 @@ int main(void)
     test_slave_blocks();
     test_line_answers();
     test_timing();
+    test_group_words();
+    test_hand_rounds();
+    test_seeded_rounds();
+    test_impossible_rounds();
+    test_replies();
+    test_search_refusals();
     printf("reference: %lu checks passed, %lu failed\n", passed, failed);
     return failed == 0 ? 0 : 1;
 }
