@@ -10,7 +10,11 @@ struct cases {
     FILE *lines;
 };
 
+/* Ends the program where the cases themselves are not what they should be. */
+void must(int holds, const char *what);
+
 void cases_frames(struct cases *to);
 void cases_rounds(struct cases *to);
+void cases_lists(struct cases *to);
 
 #endif

@@ -3,7 +3,6 @@
 #include "cases.h"
 #include "seeded.h"
 
-#include <stdlib.h>
 #include <string.h>
 
 enum { RECORD = 24, DEVICES = 4096, LISTED = 4, UNTOUCHED = 0xA5A5 };
@@ -169,14 +168,6 @@ static uint32_t make_set(uint8_t set[512], const struct told_set *told)
     for (size_t i = 0; i < told->k; i++)
         set[told->listed[i] / 8] |= (uint8_t)(1u << told->listed[i] % 8);
     return 1;
-}
-
-static void must(int holds, const char *what)
-{
-    if (holds)
-        return;
-    fprintf(stderr, "make_cases: %s\n", what);
-    abort();
 }
 
 /* The same round played by steps. */

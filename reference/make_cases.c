@@ -3,7 +3,16 @@
  * the formats. Every run writes the same bytes. */
 #include "cases.h"
 
+#include <stdlib.h>
 #include <string.h>
+
+void must(int holds, const char *what)
+{
+    if (holds)
+        return;
+    fprintf(stderr, "make_cases: %s\n", what);
+    exit(1);
+}
 
 static FILE *open_in(const char *dir, const char *name)
 {
@@ -34,10 +43,10 @@ int main(int argc, char **argv)
     static const struct {
         const char *name;
         void (*make)(struct cases *);
-    } kinds[] = {{"frames", cases_frames}, {"rounds", cases_rounds}};
+    } kinds[] = {{"frames", cases_frames}, {"rounds", cases_rounds}, {"lists", cases_lists}};
     for (size_t i = 0; argc == 3 && i < sizeof kinds / sizeof kinds[0]; i++)
         if (strcmp(argv[1], kinds[i].name) == 0)
             return write_cases(kinds[i].make, argv[2]);
-    fprintf(stderr, "usage: make_cases frames|rounds DIR\n");
+    fprintf(stderr, "usage: make_cases frames|rounds|lists DIR\n");
     return 2;
 }

@@ -88,6 +88,73 @@ int ref_telegram_bits(unsigned f_code, unsigned gap, uint32_t *bits);
  * at most that many, no (0) otherwise: 3, 6. */
 int ref_guard(uint32_t left, unsigned gap, unsigned f_code, int *yes);
 
+/* The list file ----------------------------------------------------------- */
+
+/* The number that begins at a place of the list: groups of seven bits, lowest
+ * group first, top bit set on every byte but its last, shortest form only, at
+ * most 65,535; and the place behind it. 5, also at or past the end. */
+int ref_number_at(const uint8_t *list, size_t len, size_t place, uint16_t *number,
+                  size_t *behind);
+
+enum { REF_CYCLES = 11, REF_CYCLE_WORDS = 256, REF_SUBCYCLES = 1024, REF_LIST_BYTES = 16384 };
+
+/* The cycle 2^n of a list: its words and its split numbers, as far as they were
+ * read, and for each word the number of its number in the file. */
+struct ref_cycle {
+    size_t count; /* as the list says */
+    size_t words, splits; /* as many as were read */
+    uint16_t word[REF_CYCLE_WORDS];
+    size_t word_at[REF_CYCLE_WORDS];
+    uint16_t split[REF_SUBCYCLES];
+    size_t last_split_at;
+};
+
+/* A list taken apart. */
+struct ref_list {
+    uint16_t ms, gap, reserve;
+    size_t cycles; /* as many as were begun */
+    struct ref_cycle cycle[REF_CYCLES];
+};
+
+/* Reads a list and applies every check: 1 for the file; each at its number as
+ * it is read 5, 6, 7, 8; 9 after a cycle's last split number; after the last
+ * cycle 11, then 10, then 19. What a refused list leaves in `to` means nothing:
+ * it is the caller's scratch and no output. */
+int ref_list_read(const uint8_t *list, size_t len, struct ref_list *to);
+
+/* The number of words of an accepted list. */
+size_t ref_list_words(const struct ref_list *list);
+
+/* The Basic Periods of a Macro_Cycle: 1,024 for 1 ms, 512 for 2 ms. */
+unsigned ref_list_periods(const struct ref_list *list);
+
+/* The Subcycle of word i of cycle 2^n of an accepted list. */
+unsigned ref_list_subcycle(const struct ref_list *list, unsigned n, size_t i);
+
+/* What Basic Period j of an accepted list sends: Subcycle j mod 2^n of each
+ * cycle, cycles rising, words in list order; `words` has room for all words of
+ * the list. Returns how many. */
+size_t ref_list_sends(const struct ref_list *list, unsigned j, uint16_t *words);
+
+/* The words of Basic Period j of an accepted list into a lent output, and how
+ * many: 12, 4. */
+int ref_list_period(const struct ref_list *list, uint32_t j, uint16_t *out, size_t room,
+                    size_t *count);
+
+/* An accepted list answers ms, gap, reserve and its number of words. */
+struct ref_summary {
+    uint16_t ms, gap, reserve, words;
+};
+int ref_list_check(const uint8_t *list, size_t len, struct ref_summary *summary);
+
+/* The same from the list's bytes: all list refusals first, then 12, then 4. */
+int ref_basic_period(const uint8_t *list, size_t len, uint32_t j, uint16_t *out, size_t room,
+                     size_t *count);
+
+/* The text of the list program, of a refused list too, into a lent output, and
+ * its number of bytes: 4 exactly where it does not fit. */
+int ref_list_text(const uint8_t *list, size_t len, uint8_t *out, size_t room, size_t *count);
+
 /* The event round --------------------------------------------------------- */
 
 /* Whether a device is of the group {M, C}: its low 12 - M address bits are C. */

@@ -1,6 +1,6 @@
 /* Unit tests of the second program: every hand line of document 01, its tables
  * as they stand there, and each way out of each function. */
-#include "seeded.h"
+#include "drafts.h"
 
 #include <stdio.h>
 #include <string.h>
@@ -194,6 +194,228 @@ static void test_timing(void)
     CHECK(ref_guard(457, 128, 12, &yes) == 0 && yes == 0);
     CHECK(ref_guard(458, 128, 12, &yes) == 0 && yes == 1);
     CHECK(ref_guard(4294967295u, 4, 15, &yes) == 0 && yes == 1);
+}
+
+/* The list file ----------------------------------------------------------- */
+
+static int number_is(const char *bytes, size_t len, unsigned value)
+{
+    uint16_t number = 0;
+    size_t behind = 99;
+    int refusal = ref_number_at((const uint8_t *)bytes, len, 0, &number, &behind);
+    return refusal == 0 && number == value && behind == len;
+}
+
+static void test_numbers(void)
+{
+    uint16_t number = 7;
+    size_t behind = 8;
+    CHECK(number_is("\xFF\xFF\x03", 3, 65535));
+    CHECK(number_is("\x00", 1, 0) && number_is("\x7F", 1, 127));
+    CHECK(number_is("\x80\x01", 2, 128) && number_is("\xFF\x7F", 2, 16383));
+    CHECK(number_is("\x80\x80\x01", 3, 16384));
+    CHECK(ref_number_at((const uint8_t *)"\x80\x80\x04", 3, 0, &number, &behind) == REF_NUMBER);
+    CHECK(ref_number_at((const uint8_t *)"\x80\x00", 2, 0, &number, &behind) == REF_NUMBER);
+    CHECK(ref_number_at((const uint8_t *)"\x81\x80\x00", 3, 0, &number, &behind) == REF_NUMBER);
+    CHECK(ref_number_at((const uint8_t *)"\x80\x80\x80\x01", 4, 0, &number, &behind) == REF_NUMBER);
+    CHECK(ref_number_at((const uint8_t *)"\x80\x80", 2, 0, &number, &behind) == REF_NUMBER);
+    CHECK(ref_number_at((const uint8_t *)"", 0, 0, &number, &behind) == REF_NUMBER);
+    CHECK(ref_number_at((const uint8_t *)"\x05", 1, 1, &number, &behind) == REF_NUMBER);
+    CHECK(ref_number_at((const uint8_t *)"\x05", 1, 70, &number, &behind) == REF_NUMBER);
+    CHECK(number == 7 && behind == 8);
+    for (uint32_t value = 0; value < 70000; value++) {
+        uint8_t bytes[8] = {0};
+        size_t len = write_number(bytes, value);
+        CHECK(number_is((const char *)bytes, len, value) == (value <= 65535));
+    }
+}
+
+static const uint8_t EXAMPLE[21] = {0x01, 0x01, 0x46, 0x8D, 0x04, 0x01, 0x10,
+                                    0x01, 0xA0, 0x20, 0x00, 0x01};
+static const char EXAMPLE_TEXT[] = "1 70 525 2\n0010 1 0\n1020 2 1\n";
+
+static void test_example_list(void)
+{
+    uint8_t text[64];
+    size_t count = 9, need = sizeof EXAMPLE_TEXT - 1;
+    uint16_t out[3] = {7, 7, 7};
+    memset(text, 0xA5, sizeof text);
+    CHECK(ref_list_text(EXAMPLE, 21, text, need - 1, &count) == REF_TOO_SHORT);
+    CHECK(text[0] == 0xA5 && count == 9);
+    CHECK(ref_list_text(EXAMPLE, 21, text, 64, &count) == 0 && count == need);
+    CHECK(memcmp(text, EXAMPLE_TEXT, need) == 0 && text[need] == 0xA5);
+    CHECK(ref_list_text(EXAMPLE, 20, text, 9, &count) == REF_TOO_SHORT && count == need);
+    CHECK(ref_list_text(EXAMPLE, 20, text, 10, &count) == 0 && count == 10);
+    CHECK(memcmp(text, "refused 5\n", 10) == 0);
+
+    CHECK(ref_basic_period(EXAMPLE, 20, 9999, out, 0, &count) == REF_NUMBER);
+    CHECK(ref_basic_period(EXAMPLE, 21, 1024, out, 0, &count) == REF_NO_PERIOD);
+    CHECK(ref_basic_period(EXAMPLE, 21, 1, out, 1, &count) == REF_TOO_SHORT);
+    CHECK(count == 10 && out[0] == 7);
+    CHECK(ref_basic_period(EXAMPLE, 21, 0, out, 3, &count) == 0 && count == 1);
+    CHECK(out[0] == 0x0010 && out[1] == 7);
+    CHECK(ref_basic_period(EXAMPLE, 21, 1023, out, 3, &count) == 0 && count == 2);
+    CHECK(out[0] == 0x0010 && out[1] == 0x1020 && out[2] == 7);
+}
+
+/* A list from its numbers: those given, then counts of 0 until it is whole. */
+struct written {
+    size_t len;
+    uint8_t bytes[2 * REF_LIST_BYTES];
+};
+
+static struct written written(const uint32_t *numbers, size_t count, size_t zeros)
+{
+    struct written list = {.len = 0};
+    for (size_t i = 0; i < count; i++)
+        list.len += write_number(list.bytes + list.len, numbers[i]);
+    list.len += zeros;
+    return list;
+}
+
+static int checked(struct written list, struct ref_summary *summary)
+{
+    return ref_list_check(list.bytes, list.len, summary);
+}
+
+#define LIST(zeros, ...)                                                              \
+    written((const uint32_t[]){__VA_ARGS__},                                          \
+            sizeof((const uint32_t[]){__VA_ARGS__}) / sizeof(uint32_t), zeros)
+
+static void test_hand_lists(void)
+{
+    struct ref_summary s = {9, 9, 9, 9};
+    uint16_t out[8];
+    size_t count;
+    CHECK(checked(LIST(11, 1, 1, 70, 136), &s) == REF_RANGE && s.ms == 9 && s.words == 9);
+    CHECK(checked(LIST(11, 1, 1, 70, 137), &s) == 0);
+    CHECK(s.ms == 1 && s.gap == 70 && s.reserve == 137 && s.words == 0);
+    CHECK(checked(LIST(10, 1, 1, 70, 525, 7, 1, 2, 3, 4, 5, 6, 7), &s) == 0 && s.words == 7);
+    CHECK(checked(LIST(10, 1, 1, 70, 525, 8, 1, 2, 3, 4, 5, 6, 7, 8), &s) == REF_OVERFULL);
+    /* 952 of 975: with a reserve of 548 it is full, with 549 too full. */
+    CHECK(checked(LIST(10, 1, 1, 70, 548, 7, 1, 2, 3, 4, 5, 6, 7), &s) == 0);
+    CHECK(checked(LIST(10, 1, 1, 70, 549, 7, 1, 2, 3, 4, 5, 6, 7), &s) == REF_OVERFULL);
+    struct written one = LIST(11, 1, 1, 70, 137), two = LIST(10, 1, 2, 70, 137);
+    CHECK(ref_basic_period(one.bytes, one.len, 1023, out, 0, &count) == 0 && count == 0);
+    CHECK(ref_basic_period(one.bytes, one.len, 1024, out, 0, &count) == REF_NO_PERIOD);
+    CHECK(ref_basic_period(two.bytes, two.len, 511, out, 0, &count) == 0);
+    CHECK(ref_basic_period(two.bytes, two.len, 512, out, 0, &count) == REF_NO_PERIOD);
+}
+
+static void test_header_ranges(void)
+{
+    struct ref_summary s;
+    CHECK(checked(LIST(0, 2), &s) == REF_RANGE && checked(LIST(0, 0), &s) == REF_RANGE);
+    CHECK(checked(LIST(0, 1, 0), &s) == REF_RANGE && checked(LIST(0, 1, 3), &s) == REF_RANGE);
+    CHECK(checked(LIST(0, 1, 1, 3), &s) == REF_RANGE);
+    CHECK(checked(LIST(0, 1, 1, 129), &s) == REF_RANGE);
+    CHECK(checked(LIST(11, 1, 1, 128, 194), &s) == REF_RANGE);
+    CHECK(checked(LIST(11, 1, 1, 128, 195), &s) == 0);
+    CHECK(checked(LIST(11, 1, 1, 4, 70), &s) == REF_RANGE);
+    CHECK(checked(LIST(11, 1, 1, 4, 71), &s) == 0);
+    CHECK(checked(LIST(11, 1, 1, 4, 1500), &s) == 0);
+    CHECK(checked(LIST(11, 1, 1, 4, 1501), &s) == REF_RANGE);
+    CHECK(checked(LIST(10, 1, 2, 4, 3000), &s) == 0);
+    CHECK(checked(LIST(10, 1, 2, 4, 3001), &s) == REF_RANGE);
+    CHECK(checked(LIST(0, 1, 1, 4, 71, 257), &s) == REF_RANGE);
+    CHECK(checked(LIST(0, 1, 1, 4, 71, 0, 1, 5, 257), &s) == REF_RANGE);
+    CHECK(checked(LIST(12, 1, 1, 4, 71), &s) == REF_BYTES_AFTER);
+    CHECK(checked(LIST(11, 1, 2, 4, 71), &s) == REF_BYTES_AFTER);
+    CHECK(checked(LIST(10, 1, 1, 4, 71), &s) == REF_NUMBER);
+    CHECK(checked(LIST(REF_LIST_BYTES - 4, 1, 1, 4, 71), &s) == REF_BYTES_AFTER);
+    CHECK(checked(LIST(REF_LIST_BYTES - 3, 1, 1, 4, 71), &s) == REF_WRONG_LENGTH);
+}
+
+/* The first number that fails a check decides, and at one number 5, 6, 7, 8. */
+static void test_list_order(void)
+{
+    struct ref_summary s;
+    /* F_codes 5 to 14 are not listed; 15 and the same address as 0 is. */
+    CHECK(checked(LIST(10, 1, 1, 4, 71, 1, 0x5001), &s) == REF_NOT_IN_LIST);
+    CHECK(checked(LIST(10, 1, 1, 4, 71, 1, 0xE001), &s) == REF_NOT_IN_LIST);
+    CHECK(checked(LIST(10, 1, 1, 4, 71, 2, 0xF001, 0x0001), &s) == 0);
+    CHECK(checked(LIST(10, 1, 1, 4, 71, 2, 0xF001, 0xF001), &s) == REF_TWICE);
+    CHECK(checked(LIST(10, 1, 1, 4, 71, 2, 0x4001, 0x0001), &s) == REF_TWICE);
+    /* A clash stands at its later word, across cycles too. */
+    CHECK(checked(LIST(0, 1, 1, 4, 71, 3, 1, 0x1001, 0x5005), &s) == REF_TWICE);
+    CHECK(checked(LIST(0, 1, 1, 4, 71, 3, 1, 0x5001, 1), &s) == REF_NOT_IN_LIST);
+    CHECK(checked(LIST(9, 1, 1, 4, 71, 1, 1, 1, 1, 1, 0), &s) == REF_TWICE);
+    /* Split numbers add up, or 9 before whatever follows. */
+    CHECK(checked(LIST(9, 1, 1, 4, 71, 0, 2, 1, 2, 1, 1), &s) == 0);
+    CHECK(checked(LIST(9, 1, 1, 4, 71, 0, 2, 1, 2, 1, 0), &s) == REF_SPLIT);
+    CHECK(checked(LIST(0, 1, 1, 4, 71, 0, 2, 1, 2, 1, 0), &s) == REF_SPLIT);
+    CHECK(checked(LIST(0, 1, 1, 4, 71, 0, 2, 1, 2, 256, 256, 257), &s) == REF_SPLIT);
+    CHECK(checked(LIST(0, 1, 1, 4, 71, 0, 2, 1, 2, 256), &s) == REF_NUMBER);
+    CHECK(checked(LIST(0, 1, 1, 4, 71, 0, 2, 1, 0x1001, 2, 0, 257), &s) == REF_TWICE);
+    /* 11 before 10. */
+    CHECK(checked(LIST(10, 1, 1, 4, 1500, 1, 1), &s) == REF_OVERFULL);
+    CHECK(checked(LIST(11, 1, 1, 4, 1500, 1, 1), &s) == REF_BYTES_AFTER);
+}
+
+/* In an accepted list each word goes out once in any run as long as its cycle,
+ * nothing else does, and it fits beside the reserve. */
+static void test_sends(const struct ref_list *list)
+{
+    static uint16_t sent[1024][REF_CYCLES * REF_CYCLE_WORDS];
+    static size_t count[1024];
+    unsigned periods = ref_list_periods(list);
+    size_t due = 0, went = 0;
+    for (unsigned j = 0; j < periods; j++) {
+        uint32_t sum = list->reserve, bits = 0;
+        count[j] = ref_list_sends(list, j, sent[j]);
+        for (size_t i = 0; i < count[j]; i++)
+            sum += ref_telegram_bits(sent[j][i] / 4096, list->gap, &bits) == 0 ? bits : 99999;
+        CHECK(sum <= 1500u * list->ms);
+        went += count[j];
+    }
+    for (unsigned n = 0; n < list->cycles; n++)
+        for (size_t i = 0; i < list->cycle[n].words; i++) {
+            unsigned s = ref_list_subcycle(list, n, i), times = 0;
+            for (unsigned j = s; j < periods; j += 1u << n)
+                for (size_t k = 0; k < count[j]; k++)
+                    times += sent[j][k] == list->cycle[n].word[i];
+            CHECK(s < 1u << n && times == periods >> n);
+            due += periods >> n;
+        }
+    CHECK(due == went);
+}
+
+static void test_drafted_lists(void)
+{
+    static struct draft draft;
+    static struct written file;
+    struct ref_list list;
+    uint32_t x = 0x115EED;
+    for (int i = 0; i < 100; i++) {
+        struct shape shape = {1u + (unsigned)i % 2, 4 + random_below(&x, 125), 300, {0}, -1,
+                              i % 3 == 0, 0, i % 5 == 0};
+        for (int n = 0; n < REF_CYCLES; n++)
+            shape.want[n] = random_below(&x, 20);
+        draft_list(&draft, &shape, &x);
+        file.len = write_list(file.bytes, &draft);
+        CHECK(ref_list_read(file.bytes, file.len, &list) == 0);
+        test_sends(&list);
+    }
+}
+
+/* The largest good lists: 20 or 41 telegrams of 70 bit times everywhere. */
+static void test_largest_lists(void)
+{
+    static struct draft draft;
+    static struct written file;
+    struct ref_list list;
+    uint32_t x = 1;
+    for (unsigned ms = 1; ms <= 2; ms++) {
+        struct shape shape = {ms, 4, 71, {0}, 0, 1, 0, 0};
+        shape.want[5 - ms] = ms == 1 ? 68 : 76;
+        for (unsigned n = 6 - ms; n < 12 - ms; n++)
+            shape.want[n] = 256;
+        draft_list(&draft, &shape, &x);
+        file.len = write_list(file.bytes, &draft);
+        CHECK(ref_list_read(file.bytes, file.len, &list) == 0);
+        CHECK(ref_list_words(&list) == (ms == 1 ? 1604 : 1612));
+        test_sends(&list);
+    }
 }
 
 /* The event round --------------------------------------------------------- */
@@ -431,6 +653,13 @@ int main(void)
     test_slave_blocks();
     test_line_answers();
     test_timing();
+    test_numbers();
+    test_example_list();
+    test_hand_lists();
+    test_header_ranges();
+    test_list_order();
+    test_drafted_lists();
+    test_largest_lists();
     test_group_words();
     test_hand_rounds();
     test_seeded_rounds();
