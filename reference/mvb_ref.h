@@ -155,6 +155,51 @@ int ref_basic_period(const uint8_t *list, size_t len, uint32_t j, uint16_t *out,
  * its number of bytes: 4 exactly where it does not fit. */
 int ref_list_text(const uint8_t *list, size_t len, uint8_t *out, size_t room, size_t *count);
 
+/* Ports and ages ---------------------------------------------------------- */
+
+/* A record of the port table: sink 0 is a source, anything else a sink. */
+struct ref_port {
+    uint16_t address;
+    uint8_t f_code;
+    uint8_t sink;
+};
+
+/* The table, the store and the ages that a call is lent. Ports lie packed in
+ * the store in table order; ages are one number a record. */
+struct ref_ports {
+    const struct ref_port *port;
+    size_t ports;
+    uint8_t *store;
+    size_t store_bytes;
+    uint16_t *age;
+    size_t ages;
+};
+
+/* Good means at most 256 records, addresses below 4,096 strictly rising,
+ * F_codes 0 to 4. */
+int ref_table_good(const struct ref_port *port, size_t ports);
+
+/* A frame arrives for a sink: data replaced, age 0. 13; 4 for the store, then
+ * for the ages; 14; 15; 16; 17; 1; 2. */
+int ref_port_arrive(struct ref_ports lent, uint16_t word, const uint8_t *frame, size_t len);
+
+/* A source answers a request: its frame written, the number of bytes to
+ * `count`. 13; 4 for the store; 14; 15; 16; 17; 4 for the output. No ages. */
+int ref_port_answer(struct ref_ports lent, uint16_t word, uint8_t *out, size_t room,
+                    size_t *count);
+
+/* The application reads a sink: data, their number of bytes, the age. 13; 4
+ * for the store, then for the ages; 15; 17; 4 for the output. */
+int ref_port_read(struct ref_ports lent, uint16_t address, uint8_t *out, size_t room,
+                  size_t *count, uint16_t *age);
+
+/* The application fills a source. 13; 4 for the store; 15; 17; 1. No ages. */
+int ref_port_fill(struct ref_ports lent, uint16_t address, const uint8_t *data, size_t len);
+
+/* A tick raises every sink's age by 1, staying at 65,535, and no source's. 13;
+ * 4 for the ages. No store. */
+int ref_port_tick(struct ref_ports lent);
+
 /* The event round --------------------------------------------------------- */
 
 /* Whether a device is of the group {M, C}: its low 12 - M address bits are C. */

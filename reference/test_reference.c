@@ -418,6 +418,195 @@ static void test_largest_lists(void)
     }
 }
 
+/* Ports and ages ---------------------------------------------------------- */
+
+/* Five ports of every size, sinks marked 1, 2 and 255, in a store of 62 bytes. */
+static const struct ref_port TABLE[5] = {{0x001, 4, 1},
+                                         {0x010, 0, 0},
+                                         {0x123, 3, 2},
+                                         {0x800, 2, 0},
+                                         {0xFFF, 1, 255}};
+enum { STORE = 32 + 2 + 16 + 8 + 4 };
+
+/* A store and ages with known contents, and a byte behind the store. */
+struct lent {
+    uint8_t store[STORE + 1];
+    uint16_t age[6];
+    struct ref_ports ports;
+};
+
+static void lend(struct lent *to)
+{
+    for (size_t i = 0; i <= STORE; i++)
+        to->store[i] = (uint8_t)(i + 1);
+    for (uint16_t i = 0; i < 6; i++)
+        to->age[i] = (uint16_t)(100 * i + 7);
+    to->ports = (struct ref_ports){TABLE, 5, to->store, STORE, to->age, 5};
+}
+
+/* Whether store and ages are as lent, but for these bytes and this age. */
+static int untouched(const struct lent *now, size_t from, size_t bytes, size_t age)
+{
+    struct lent fresh;
+    int same = 1;
+    lend(&fresh);
+    for (size_t i = 0; i <= STORE; i++)
+        same &= (i >= from && i < from + bytes) || now->store[i] == fresh.store[i];
+    for (size_t i = 0; i < 6; i++)
+        same &= i == age || now->age[i] == fresh.age[i];
+    return same;
+}
+
+static int all_untouched(const struct lent *now)
+{
+    return untouched(now, 0, 0, 99);
+}
+
+static int good(const struct ref_port *table, size_t ports)
+{
+    uint8_t store[1] = {0};
+    uint16_t ages[300] = {0};
+    return ref_port_tick((struct ref_ports){table, ports, store, 0, ages, 300}) == 0;
+}
+
+static void test_tables(void)
+{
+    static struct ref_port many[257];
+    for (uint16_t i = 0; i < 257; i++)
+        many[i] = (struct ref_port){(uint16_t)(16 * i - (i == 256)), i % 5, (uint8_t)i};
+    CHECK(good(many, 0) && good(many, 1) && good(many, 256) && good(TABLE, 5));
+    CHECK(!good(many, 257));
+    many[7].address = many[6].address;
+    CHECK(good(many, 7) && !good(many, 8));
+    many[7].address = (uint16_t)(many[6].address - 1);
+    CHECK(!good(many, 8));
+    many[7].address = (uint16_t)(many[6].address + 1);
+    CHECK(good(many, 8));
+    many[7].f_code = 5;
+    CHECK(!good(many, 8));
+    many[7].f_code = 12;
+    CHECK(!good(many, 8));
+    CHECK(good((const struct ref_port[]){{4095, 0, 0}}, 1));
+    CHECK(!good((const struct ref_port[]){{4096, 0, 0}}, 1));
+}
+
+static void test_arrive(void)
+{
+    struct lent l;
+    uint8_t data[16], frame[18];
+    size_t count = 0;
+    memset(data, 0xEE, sizeof data);
+    CHECK(ref_slave_write(3, data, 16, frame, 18, &count) == 0);
+    lend(&l);
+    CHECK(ref_port_arrive(l.ports, 0x3123, frame, 18) == 0);
+    CHECK(untouched(&l, 34, 16, 2) && l.age[2] == 0 && memcmp(l.store + 34, data, 16) == 0);
+
+    lend(&l);
+    CHECK(ref_port_arrive(l.ports, 0x5124, frame, 17) == REF_NOT_PROCESS_DATA);
+    CHECK(ref_port_arrive(l.ports, 0xF123, frame, 17) == REF_NOT_PROCESS_DATA);
+    CHECK(ref_port_arrive(l.ports, 0x3124, frame, 17) == REF_NO_PORT);
+    CHECK(ref_port_arrive(l.ports, 0x1010, frame, 17) == REF_OTHER_F_CODE);
+    CHECK(ref_port_arrive(l.ports, 0x0010, frame, 17) == REF_SINK_SOURCE);
+    CHECK(ref_port_arrive(l.ports, 0x3123, frame, 17) == REF_WRONG_LENGTH);
+    frame[17] ^= 1;
+    CHECK(ref_port_arrive(l.ports, 0x3123, frame, 18) == REF_WRONG_CHECK);
+    l.ports.ages = 4;
+    CHECK(ref_port_arrive(l.ports, 0x5124, frame, 17) == REF_TOO_SHORT);
+    l.ports.ages = 5;
+    l.ports.store_bytes = STORE - 1;
+    CHECK(ref_port_arrive(l.ports, 0x5124, frame, 17) == REF_TOO_SHORT);
+    l.ports.port = (const struct ref_port[]){{2, 0, 0}, {1, 0, 0}};
+    l.ports.ports = 2;
+    l.ports.store_bytes = 0;
+    CHECK(ref_port_arrive(l.ports, 0x5124, frame, 17) == REF_TABLE);
+    CHECK(all_untouched(&l));
+}
+
+static void test_answer(void)
+{
+    struct lent l;
+    uint8_t out[10];
+    size_t count = 77;
+    lend(&l);
+    memset(out, 0xA5, sizeof out);
+    l.ports.ages = 0; /* an answer takes no ages */
+    CHECK(ref_port_answer(l.ports, 0x8800, out, 0, &count) == REF_NOT_PROCESS_DATA);
+    CHECK(ref_port_answer(l.ports, 0x2801, out, 0, &count) == REF_NO_PORT);
+    CHECK(ref_port_answer(l.ports, 0x3800, out, 0, &count) == REF_OTHER_F_CODE);
+    CHECK(ref_port_answer(l.ports, 0x3001, out, 0, &count) == REF_OTHER_F_CODE);
+    CHECK(ref_port_answer(l.ports, 0x4001, out, 0, &count) == REF_SINK_SOURCE);
+    CHECK(ref_port_answer(l.ports, 0x2800, out, 8, &count) == REF_TOO_SHORT);
+    CHECK(count == 77 && out[0] == 0xA5);
+    CHECK(ref_port_answer(l.ports, 0x2800, out, 10, &count) == 0 && count == 9);
+    CHECK(memcmp(out, l.store + 50, 8) == 0 && out[8] == ref_check_of(out, 8) && out[9] == 0xA5);
+    l.ports.store_bytes = STORE - 1;
+    CHECK(ref_port_answer(l.ports, 0x8800, out, 0, &count) == REF_TOO_SHORT);
+    CHECK(all_untouched(&l));
+}
+
+static void test_read_and_fill(void)
+{
+    struct lent l;
+    uint8_t out[5];
+    size_t count = 77;
+    uint16_t age = 66;
+    lend(&l);
+    memset(out, 0xA5, sizeof out);
+    CHECK(ref_port_read(l.ports, 0x1FFF, out, 0, &count, &age) == REF_NO_PORT);
+    CHECK(ref_port_read(l.ports, 0x800, out, 0, &count, &age) == REF_SINK_SOURCE);
+    CHECK(ref_port_read(l.ports, 0xFFF, out, 3, &count, &age) == REF_TOO_SHORT);
+    CHECK(count == 77 && age == 66 && out[0] == 0xA5);
+    CHECK(ref_port_read(l.ports, 0xFFF, out, 5, &count, &age) == 0 && count == 4 && age == 407);
+    CHECK(memcmp(out, l.store + 58, 4) == 0 && out[4] == 0xA5);
+    l.ports.ages = 4;
+    CHECK(ref_port_read(l.ports, 0x1FFF, out, 0, &count, &age) == REF_TOO_SHORT);
+    /* Filling a source takes no ages. */
+    CHECK(ref_port_fill(l.ports, 0x1800, out, 7) == REF_NO_PORT);
+    CHECK(ref_port_fill(l.ports, 0xFFF, out, 7) == REF_SINK_SOURCE);
+    CHECK(ref_port_fill(l.ports, 0x010, out, 3) == REF_WRONG_LENGTH);
+    CHECK(all_untouched(&l));
+    CHECK(ref_port_fill(l.ports, 0x010, (const uint8_t *)"\xAB\xCD", 2) == 0);
+    CHECK(untouched(&l, 32, 2, 99) && l.store[32] == 0xAB && l.store[33] == 0xCD);
+}
+
+static void test_ticks(void)
+{
+    struct lent l;
+    lend(&l);
+    l.age[4] = 65534;
+    l.ports.store_bytes = 0; /* a tick takes no store */
+    CHECK(ref_port_tick(l.ports) == 0 && l.age[4] == 65535);
+    CHECK(ref_port_tick(l.ports) == 0 && l.age[4] == 65535);
+    CHECK(l.age[0] == 9 && l.age[1] == 107 && l.age[2] == 209 && l.age[3] == 307);
+    CHECK(l.age[5] == 507 && memcmp(l.store, "\1\2\3", 3) == 0);
+    l.ports.ages = 4;
+    CHECK(ref_port_tick(l.ports) == REF_TOO_SHORT && l.age[0] == 9);
+}
+
+/* Filled, answered, arrived, read: the same data, age 0, then n after n ticks. */
+static void test_port_trip(void)
+{
+    for (uint8_t f_code = 0; f_code < 5; f_code++) {
+        struct ref_port source = {0x345, f_code, 0}, sink = {0x345, f_code, 1};
+        uint8_t here[32] = {0}, there[32] = {0}, data[32], frame[36], back[32] = {0};
+        uint16_t ages[1] = {9}, age = 9, word = (uint16_t)(4096 * f_code + 0x345);
+        struct ref_ports from = {&source, 1, here, 32, ages, 0};
+        struct ref_ports to = {&sink, 1, there, 32, ages, 1};
+        size_t bytes = ref_data_bits(f_code) / 8, count = 0;
+        for (size_t i = 0; i < 32; i++)
+            data[i] = (uint8_t)(7 * i + f_code);
+        CHECK(ref_port_fill(from, 0x345, data, bytes) == 0);
+        CHECK(ref_port_answer(from, word, frame, 36, &count) == 0);
+        CHECK(ref_port_arrive(to, word, frame, count) == 0);
+        CHECK(ref_port_read(to, 0x345, back, 32, &count, &age) == 0 && age == 0);
+        CHECK(count == bytes && memcmp(back, data, bytes) == 0);
+        for (unsigned n = 1; n <= 70000; n++)
+            ref_port_tick(to);
+        CHECK(ref_port_read(to, 0x345, back, 32, &count, &age) == 0 && age == 65535);
+        CHECK(memcmp(back, data, bytes) == 0);
+    }
+}
+
 /* The event round --------------------------------------------------------- */
 
 static void test_group_words(void)
@@ -660,6 +849,12 @@ int main(void)
     test_list_order();
     test_drafted_lists();
     test_largest_lists();
+    test_tables();
+    test_arrive();
+    test_answer();
+    test_read_and_fill();
+    test_ticks();
+    test_port_trip();
     test_group_words();
     test_hand_rounds();
     test_seeded_rounds();
