@@ -346,6 +346,7 @@ static void test_list_order(void)
     CHECK(checked(LIST(0, 1, 1, 4, 71, 0, 2, 1, 2, 1, 0), &s) == REF_SPLIT);
     CHECK(checked(LIST(0, 1, 1, 4, 71, 0, 2, 1, 2, 256, 256, 257), &s) == REF_SPLIT);
     CHECK(checked(LIST(0, 1, 1, 4, 71, 0, 2, 1, 2, 256), &s) == REF_NUMBER);
+    CHECK(checked(LIST(0, 1, 1, 4, 71, 0, 2, 1), &s) == REF_NUMBER);
     CHECK(checked(LIST(0, 1, 1, 4, 71, 0, 2, 1, 0x1001, 2, 0, 257), &s) == REF_TWICE);
     /* 11 before 10. */
     CHECK(checked(LIST(10, 1, 1, 4, 1500, 1, 1), &s) == REF_OVERFULL);
