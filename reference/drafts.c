@@ -1,8 +1,6 @@
 /* Lists drafted as runs of numbers. */
 #include "drafts.h"
 
-#include <string.h>
-
 /* What the words drafted so far take. */
 struct plan {
     const struct shape *shape;
@@ -112,6 +110,22 @@ void draft_list(struct draft *to, const struct shape *shape, uint32_t *x)
         most = plan.load[j] > most ? plan.load[j] : most;
     if (shape->tight)
         to->number[3] = 1500 * shape->ms - most;
+}
+
+void draft_given(struct draft *to, const struct shape *shape, const struct given *given,
+                 size_t count)
+{
+    draft_header(to, shape);
+    for (unsigned n = 0; n < (shape->ms == 1 ? 11 : 10); n++) {
+        struct cycle_plan cycle = {.words = 0};
+        for (size_t i = 0; i < count; i++)
+            if (given[i].n == n) {
+                cycle.word[cycle.words] = given[i].word;
+                cycle.subcycle[cycle.words] = given[i].subcycle;
+                cycle.words++;
+            }
+        draft_cycle(to, n, &cycle);
+    }
 }
 
 size_t write_number(uint8_t *to, uint32_t number)

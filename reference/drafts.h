@@ -28,6 +28,16 @@ struct shape {
 /* Drafts a list of that shape. */
 void draft_list(struct draft *to, const struct shape *shape, uint32_t *x);
 
+/* A word that stands in a Subcycle of the cycle 2^n. */
+struct given {
+    uint16_t word;
+    unsigned n, subcycle;
+};
+
+/* Drafts a list of given words; of the shape only its header counts. */
+void draft_given(struct draft *to, const struct shape *shape, const struct given *given,
+                 size_t count);
+
 /* Adds a number at the end. */
 void draft_number(struct draft *to, enum number_kind kind, uint32_t number);
 
