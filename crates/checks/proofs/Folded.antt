@@ -18,7 +18,6 @@ use Rattle.checks.proofs.Parity.{odd-append, odd-add}
 use Rattle.checks.proofs.Distance.{remainder-add}
 use Rattle.checks.proofs.Shifts.{bits-small, Shifted, whole, up, down, sum, numbers, runs, numbers-small, numbers-bits, runs-length, Linear, runs-linear, atUnits, agree}
 
-
 -- ---- the remainder
 
 -- what `remainder_of` does, line by line

@@ -79,7 +79,7 @@ passed-first bytes sum rest h s r =
     record {
       remains = r ∙ ap (λ (x : List Bool). number (remainder x)) w ∙ ap number (remainder-zeros (64 - length (bitsOf bytes)) (bitsOf bytes));
       ones = ap odd w ∙ odd-zeros (64 - length (bitsOf bytes)) (bitsOf bytes);
-      small = rw s (number-small bytes h)
+      small = rw s (number-small bytes h);
     }
 
 -- the seven bits of the remainder
@@ -106,16 +106,16 @@ passed-more bytes chunk sum rest next rest' p h n r =
     let u : bits 64 ((rest * 2 ^ 57) % 2 ^ 64) ≡ remainder m ++ replicate 57 false = ap (λ (x : ℕ). bits 64 ((x * 2 ^ 57) % 2 ^ 64)) (p .remains) ∙ rest-up m in
     record {
       remains =
-        r
-        ∙ ap (λ (x : List Bool). number (remainder x)) (bits-xor 64 ((rest * 2 ^ 57) % 2 ^ 64) next ∙ ap₂ add u w)
-        ∙ ap number (sym (remainder-more m b 57 (omega arith)))
-        ∙ ap (λ (x : List Bool). number (remainder x)) (sym (bitsOf-append bytes chunk));
+          r
+          ∙ ap (λ (x : List Bool). number (remainder x)) (bits-xor 64 ((rest * 2 ^ 57) % 2 ^ 64) next ∙ ap₂ add u w)
+          ∙ ap number (sym (remainder-more m b 57 (omega arith)))
+          ∙ ap (λ (x : List Bool). number (remainder x)) (sym (bitsOf-append bytes chunk));
       ones =
-        ap odd (bits-xor 64 sum next)
-        ∙ odd-add (same (bits 64 sum) (bits 64 next) (length-bits 64 sum ∙ sym (length-bits 64 next)))
-        ∙ ap₂ plus (p .ones) (ap odd w)
-        ∙ sym (ap odd (bitsOf-append bytes chunk) ∙ odd-append m b);
-      small = xor-lt 64 sum next (p .small) (rw n (number-small chunk (omega arith)))
+          ap odd (bits-xor 64 sum next)
+          ∙ odd-add (same (bits 64 sum) (bits 64 next) (length-bits 64 sum ∙ sym (length-bits 64 next)))
+          ∙ ap₂ plus (p .ones) (ap odd w)
+          ∙ sym (ap odd (bitsOf-append bytes chunk) ∙ odd-append m b);
+      small = xor-lt 64 sum next (p .small) (rw n (number-small chunk (omega arith)));
     }
 
 -- ---- the check sequence

@@ -1,3 +1,4 @@
 pub mod Rows
 pub mod BlockLaws
 pub mod Turns
+pub mod Order

@@ -37,11 +37,11 @@ module _ {made : ℕ → List ℕ → List ℕ} {step grow : ℕ} {src out₀ ou
         ahead = room at left step (length src) (g .ahead) some;
         after = room-all to left grow (count * grow) (g .after) some;
         so-far =
-          ap₂ _++_ t (ap (made (left - 1)) (sym (drop-drop step at src)))
-          ∙ append-assoc (take to out) piece (made (left - 1) (drop step (drop at src)))
-          ∙ ap (λ (x : List ℕ). take to out ++ x) (sym first)
-          ∙ g .so-far;
-        rest = d ∙ sym (drop-drop grow to out) ∙ ap (drop grow) (g .rest) ∙ drop-drop grow to out₀
+            ap₂ _++_ t (ap (made (left - 1)) (sym (drop-drop step at src)))
+            ∙ append-assoc (take to out) piece (made (left - 1) (drop step (drop at src)))
+            ∙ ap (λ (x : List ℕ). take to out ++ x) (sym first)
+            ∙ g .so-far;
+        rest = d ∙ sym (drop-drop grow to out) ∙ ap (drop grow) (g .rest) ∙ drop-drop grow to out₀;
       })
 
   pub going-end : left ≡ 0 → made left (drop at src) ≡ [] → out ≡ made count src ++ drop (count * grow) out₀
@@ -82,7 +82,6 @@ lent-copy out src v to h e =
 -- what a copy of the block at `at` leaves, with `v` the lent part afterwards
 module _ (out src v : List ℕ) (at to size : ℕ) (h : at + size ≤ length src) (g : to + size ≤ length out)
     (e : v ≡ take (length (take (at + size - at) (drop at src))) (take (at + size - at) (drop at src)) ++ drop (length (take (at + size - at) (drop at src))) (take (length out - to) (drop to out))) where
-
   copied : putMid to (length out - to) out v ≡ paste out to (take size (drop at src)) size
   copied =
       let l : length (take (at + size - at) (drop at src)) ≡ size = length-part at size src h in

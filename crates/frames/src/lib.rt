@@ -3,7 +3,6 @@ mod blocks;
 mod shapes;
 
 use refusals::Refusal;
-
 ghost use mathlib.Core.Path.{_≡_};
 ghost use lib.ListN.{length};
 ghost use Rattle.frames.specs.Rows.{rowOf};

@@ -47,12 +47,14 @@ no-first : (block : List ℕ) (sum rest : ℕ) → length block % 8 ≡ 0 → su
 no-first block sum rest h es er = rw (h, es, er) passed-none
 
 loop-holds : tie.Need-loop-holds Inv-loop μ-loop
-loop-holds c =
-    (search needs, omega arith,
-    ⊎-elim
-    (λ w. some-first (c .before .before .args .block .now) (c .if1 .sum) (c .if1 .rest) (w .2 .result) (w .3 .result) (w .4) (w .5) (w .2 .ensures) (w .3 .ensures))
-    (λ w. no-first (c .before .before .args .block .now) (c .if1 .sum) (c .if1 .rest) (omega (arith, w .0 .left)) (w .1) (w .2))
-    (c .if1 .came))
+loop-holds c = (
+  search needs,
+  omega arith,
+  ⊎-elim
+      (λ w. some-first (c .before .before .args .block .now) (c .if1 .sum) (c .if1 .rest) (w .2 .result) (w .3 .result) (w .4) (w .5) (w .2 .ensures) (w .3 .ensures))
+      (λ w. no-first (c .before .before .args .block .now) (c .if1 .sum) (c .if1 .rest) (omega (arith, w .0 .left)) (w .1) (w .2))
+      (c .if1 .came),
+)
 
 more : (block : List ℕ) (at sum rest next rest' : ℕ) → at + 8 ≤ length block → Passed (take at block) sum rest → next ≡ number (bitsOf (take (at + 8 - at) (drop at block)))
     → rest' ≡ number (remainder (bits 64 (bitXor ((rest * 2 ^ 57) % 2 ^ 64) next))) → Passed (take (at + 8) block) (bitXor sum next) rest'
@@ -62,11 +64,13 @@ more block at sum rest next rest' h p n r =
     (passed-more (take at block) (take (at + 8 - at) (drop at block)) sum rest next rest' p (length-next block at h) n r)
 
 loop-again : tie.Need-loop-again Inv-loop μ-loop
-loop-again c =
-    (omega arith, omega arith,
-    more (c .before .before .before .before .before .before .before .before .before .args .block .now) (c .before .before .before .before .before .before .loop .at) (c .before .before .before .before .before .before .loop .sum)
-    (c .before .before .before .before .before .before .loop .rest) (c .before .before .before .number-of2 .result) (c .remainder-of2 .result) (omega arith)
-    (c .before .before .before .before .before .before .loop .inv .2) (c .before .before .before .number-of2 .ensures) (c .remainder-of2 .ensures))
+loop-again c = (
+  omega arith,
+  omega arith,
+  more (c .before .before .before .before .before .before .before .before .before .args .block .now) (c .before .before .before .before .before .before .loop .at) (c .before .before .before .before .before .before .loop .sum)
+      (c .before .before .before .before .before .before .loop .rest) (c .before .before .before .number-of2 .result) (c .remainder-of2 .result) (omega arith)
+      (c .before .before .before .before .before .before .loop .inv .2) (c .before .before .before .number-of2 .ensures) (c .remainder-of2 .ensures),
+)
 
 small : (bytes : List ℕ) (sum rest : ℕ) → Passed bytes sum rest → rest < 128
 small bytes sum rest p = rw (p .remains) (rest-lt (bitsOf bytes))

@@ -28,9 +28,11 @@ returns : tie.Need-returns Inv-loop μ-loop
 returns c = wrong-here _ _ _ _ _ _ (c .before .before .before .before .loop-test .taken) (c .before .before .check-of .ensures) (c .if1 .taken) (c .before .before .before .before .before .loop .inv .2)
 
 loop-again : tie.Need-loop-again Inv-loop μ-loop
-loop-again c =
-    (omega arith, within (c .before .before .before .before),
-    right-here _ _ _ _ _ _ (c .before .before .before .before .loop-test .taken) (c .before .before .check-of .ensures) (c .if1 .left) (c .before .before .before .before .before .loop .inv .2))
+loop-again c = (
+  omega arith,
+  within (c .before .before .before .before),
+  right-here _ _ _ _ _ _ (c .before .before .before .before .loop-test .taken) (c .before .before .check-of .ensures) (c .if1 .left) (c .before .before .before .before .before .loop .inv .2),
+)
 
 returns-2 : tie.Need-returns-2 Inv-loop μ-loop
 returns-2 c = right-all (c .before .before .before .args .frame .now) (c .before .loop .at) _ _ _ (c .loop-test .left) (c .before .loop .inv .2)

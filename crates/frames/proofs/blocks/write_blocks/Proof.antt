@@ -27,9 +27,12 @@ in-out c = write-room _ _ _ _ _ _ _ _ (c .before .loop .inv) (c .loop-test .take
 slice-write-out : tie.Need-slice-write-out Inv-loop μ-loop
 slice-write-out c =
     let place : tie.In-loop Inv-loop μ-loop = c .before .before .before .before .before .before .before in
-    omega (arith, in-out place,
-    copied-length (place .before .loop .out) (place .before .before .before .before .args .«data» .now) (c .before .before .before .before .copy .last .1 .0) (place .before .loop .at) (place .before .loop .to) (place .before .before .before .before .args .size)
-    (in-data place) (omega (arith, in-out place)) (c .before .before .before .before .copy .ensures .1))
+    omega (
+      arith,
+      in-out place,
+      copied-length (place .before .loop .out) (place .before .before .before .before .args .«data» .now) (c .before .before .before .before .copy .last .1 .0) (place .before .loop .at) (place .before .loop .to) (place .before .before .before .before .args .size)
+          (in-data place) (omega (arith, in-out place)) (c .before .before .before .before .copy .ensures .1),
+    )
 
 loop-again : tie.Need-loop-again Inv-loop μ-loop
 loop-again c =

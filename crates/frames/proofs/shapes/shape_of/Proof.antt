@@ -7,14 +7,22 @@ use Rattle.frames.proofs.shapes.shape_of.Statement.{statement}
 use Rattle.frames.proofs.shapes.shape_of.Tie as tie
 
 returns : tie.Need-returns
-returns c =
-    (row-allowed _ _ (c .before .row-of .ensures), row-data _ _ (c .before .row-of .ensures), row-whole _ _ (c .before .row-of .ensures), row-blocks _ _ (c .before .row-of .ensures),
-    row-size-small _ _ (c .before .row-of .ensures) (c .if1 .taken))
+returns c = (
+  row-allowed _ _ (c .before .row-of .ensures),
+  row-data _ _ (c .before .row-of .ensures),
+  row-whole _ _ (c .before .row-of .ensures),
+  row-blocks _ _ (c .before .row-of .ensures),
+  row-size-small _ _ (c .before .row-of .ensures) (c .if1 .taken),
+)
 
 returns-2 : tie.Need-returns-2
-returns-2 c =
-    (row-allowed _ _ (c .before .row-of .ensures), row-data _ _ (c .before .row-of .ensures), row-whole _ _ (c .before .row-of .ensures), row-blocks _ _ (c .before .row-of .ensures),
-    row-size-large _ _ (c .before .row-of .ensures) (c .if1 .left))
+returns-2 c = (
+  row-allowed _ _ (c .before .row-of .ensures),
+  row-data _ _ (c .before .row-of .ensures),
+  row-whole _ _ (c .before .row-of .ensures),
+  row-blocks _ _ (c .before .row-of .ensures),
+  row-size-large _ _ (c .before .row-of .ensures) (c .if1 .left),
+)
 
 pub shape-of-spec : {M : Type 1} → statement M
 shape-of-spec =
