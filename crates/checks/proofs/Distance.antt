@@ -10,11 +10,12 @@ use native.Mathlib.Omega.{arith}
 use native.Mathlib.Decide.{decLe}
 use lib.Dec.{T}
 use lib.ListN.{length, replicate, length-append, length-replicate, length-map}
-use Rattle.checks.specs.Bits.{one}
-use Rattle.checks.specs.Check.{plus, add, divided, remainder, odd, plain, checkBits}
+use Rattle.checks.specs.Bits.{bits, bitsOf, one}
+use Rattle.checks.specs.Check.{plus, add, divided, remainder, odd, plain, checkBits, checkOf}
 use Rattle.checks.specs.Distance.{differing}
 use Rattle.checks.proofs.Tests.{both, both-left, both-right, upto, at-upto}
 use Rattle.checks.proofs.Polynomials.{Same, nils, conss, same, same-length, same-append, add-append, add-self, length-add, divided-add, mix, length-remainder}
+use Rattle.checks.proofs.Numbers.{byte-number}
 use Rattle.checks.proofs.Parity.{odd-append, odd-add, length-plain}
 
 -- ---- the check bits are linear
@@ -165,3 +166,8 @@ apart m n e h ne =
     let l : length (add m n) ≡ length n = length-add m n in
     let g : 4 ≤ ones (add m n ++ plain (add m n)) = weight (add m n) (omega arith) (λ z. ne (no-ones s z)) in
     subst (λ (k : ℕ). 4 ≤ k) (sym d) g
+
+-- the bits of a block's check sequence
+pub check-bits : (block : List ℕ) → bits 8 (checkOf block) ≡ checkBits (bitsOf block)
+unfolding checkOf checkBits
+check-bits block = byte-number (map not (plain (bitsOf block))) (length-map (plain (bitsOf block)) not ∙ length-plain (bitsOf block))

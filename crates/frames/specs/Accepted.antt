@@ -5,6 +5,7 @@ use mathlib.Core.List.{List, [], _∷_}
 use Prim.Native.Nat.{ℕ, _+_, _*_}
 use lib.ListN.{take, drop}
 use Rattle.refusals.specs.Told.{gives}
+use Rattle.frames.specs.Rows.{blocks, blockBytes}
 use Rattle.frames.specs.Master.{masterRead}
 use Rattle.frames.specs.Slave.{slaveRead}
 
@@ -12,6 +13,16 @@ use Rattle.frames.specs.Slave.{slaveRead}
 pub data Accepted : List ℕ → Type 0 where
   master : {w : List ℕ} (word : ℕ) → masterRead w ≡ gives (word ∷ []) → Accepted w
   slave : {w : List ℕ} (f room n : ℕ) → slaveRead f w room ≡ gives (n ∷ []) → Accepted w
+
+-- how many blocks it has
+abbrev pub blockCount : {w : List ℕ} → Accepted w → ℕ
+blockCount (master word h) = 1
+blockCount (slave f room n h) = blocks f
+
+-- and of how many bytes each
+abbrev pub blockSize : {w : List ℕ} → Accepted w → ℕ
+blockSize (master word h) = 2
+blockSize (slave f room n h) = blockBytes f
 
 -- "some block and its check sequence": block i of n bytes, with the byte that follows it
 abbrev pub blockAt : ℕ → ℕ → List ℕ → List ℕ

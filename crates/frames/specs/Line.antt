@@ -1,6 +1,6 @@
 -- The line's answer (document 01, "The event round", second paragraph).
 -- Assumes nothing.
-use mathlib.Core.Bool.{cond, _&&_}
+use mathlib.Core.Bool.{Bool, cond, _&&_}
 use mathlib.Core.List.{List, [], _∷_}
 use Prim.Native.Nat.{ℕ}
 use lib.Dec.{eqb}
@@ -21,9 +21,13 @@ reply word = gives (1 ∷ word ∷ [])
 abbrev pub collision : Told
 collision = gives (2 ∷ [])
 
+-- "a right 3-byte frame": its length and its check sequence, whatever the word
+abbrev pub rightFrame : List ℕ → Bool
+rightFrame bytes = eqb (length bytes) 3 && allRight 1 2 bytes
+
 -- "Made from bytes: none is silence; a right 3-byte frame is a reply; all else is a collision"
 unfoldable pub lineAnswer : List ℕ → Told
 lineAnswer bytes =
     cond (eqb (length bytes) 0) silence
-    (cond (eqb (length bytes) 3 && allRight 1 2 bytes) (reply (wordIn bytes))
+    (cond (rightFrame bytes) (reply (wordIn bytes))
     collision)
