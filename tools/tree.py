@@ -7,15 +7,21 @@ from pathlib import Path
 # A token of Rattle code, and one of antt, of which a clause and an .antt file are made.
 CODE = re.compile(r'''//[^\n]*|/\*|b?"(?:\\.|[^"\\])*"|b'(?:\\x\w\w|\\.|[^\\'])'|\w+|.''', re.S)
 ANTT = re.compile(r'''--[^\n]*|\{-|"(?:\\.|[^"\\])*"|«[^»]*»|[^\s(){}.;,@"«»]+|.''', re.S)
-CLAUSES = ('ghost', 'requires', 'ensures')
 
-FUNCTION = re.compile(r'(?P<pub>\bpub\b\s*(?P<scope>\([^)]*\))?\s*)?(?:\bextern\s+)?\bfn\s+(?P<name>\w+)\s*(?:<[^(]*>)?\s*\(')
+CLAUSES = ('ghost', 'requires', 'ensures')
+CLAUSE = re.compile(r'\s*\b(ghost|requires|ensures)\b\s*\w*\s*\{')
+FUNCTION = re.compile(r'''(?P<pub>\bpub\b\s*(?P<scope>\([^)]*\))?\s*)?(?:\bextern\s+)?
+                          \bfn\s+(?P<name>\w+)\s*(?:<[^(]*>)?\s*\(''', re.X)
 TYPE_END = re.compile(r'[\[({\])};]|\b(?:where|ghost|requires|ensures)\b')
 WHERE = re.compile(r'\s*where\b(?:(?!\b(?:ghost|requires|ensures)\b)[^{;])*')
-CLAUSE = re.compile(r'\s*\b(ghost|requires|ensures)\b\s*\w*\s*\{')
-BLOCK = re.compile(r'\b(?:impl\s*(?:<[^{>]*>)?\s*(?:\w+::)*(?P<type>\w+)[^{};]*|mod\s+(?P<module>\w+)\s*)\{')
+BLOCK = re.compile(r'''\bimpl\s*(?:<[^{>]*>)?\s*(?:\w+::)*(?P<type>\w+)[^{};]*\{
+                     | \bmod\s+(?P<module>\w+)\s*\{''', re.X)
 STRUCT = re.compile(r'\bstruct\s+(\w+)\s*(?:<[^({;]*>)?\s*[({]')
-DECLARED = re.compile(r'^(?:(?:unfoldable|abbrev|pub)\s+)*(?:(?:data|record)\s+(?P<type>[^\s(){}]+)|(?P<name>«[^»]*»|[^\s(){}.;,@"«»]+)\s*(?:\{[^}]*\}\s*)?:(?=\s))', re.M)
+
+# A declaration of antt starts its line; in a module block or a record it is set in, and `pub`.
+DECLARED = re.compile(r'''^(?:[ ]+(?=(?:unfoldable[ ]|abbrev[ ])*pub[ ]))?(?:(?:unfoldable|abbrev|pub)\s+)*
+                          (?:(?:data|record)\s+(?P<type>[^\s(){}]+)
+                           | (?P<name>«[^»]*»|[^\s(){}.;,@"«»]+)\s*(?:\{[^}]*\}\s*)?:(?=\s))''', re.M | re.X)
 
 
 @dataclass
@@ -161,9 +167,19 @@ def function_at(file, text, m, around):
         return None
     inside = [b for b in around if b[2] < m.start() < b[3]]
     steps = [s for s in Path(file).with_suffix('').parts[3:] if s not in ('lib', 'main', 'mod')]
-    return Function(file, m['name'], ''.join(b[0] for b in inside if b[0]), steps + [b[1] for b in inside if b[1]],
-                    m['pub'] is not None and m['scope'] is None, params, '' if answer == '()' else answer, clauses,
-                    m.start(), body.end() - 1, closing(text, body.end() - 1))
+    return Function(
+        file=file,
+        name=m['name'],
+        owner=''.join(b[0] for b in inside if b[0]),
+        modules=steps + [b[1] for b in inside if b[1]],
+        public=m['pub'] is not None and m['scope'] is None,
+        params=params,
+        answer='' if answer == '()' else answer,
+        clauses=clauses,
+        start=m.start(),
+        body=body.end() - 1,
+        end=closing(text, body.end() - 1),
+    )
 
 
 def functions_in(file, text):
@@ -196,7 +212,7 @@ def structs(root):
 
 
 def declared(text):
-    """The names that an .antt file declares at the start of a line."""
+    """The names that an .antt file declares."""
     return {m['type'] or m['name'] for m in DECLARED.finditer(plain(text, 1))}
 
 
