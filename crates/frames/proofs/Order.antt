@@ -8,7 +8,7 @@ use native.Mathlib.Omega.{arith}
 use borrow.Author.Tests.{eq-eqb, ne-eqb, lt-ltb, le-ltb, not-true, not-false}
 use lib.Dec.{eqb}
 use lib.ListN.{length, drop}
-use Rattle.refusals.specs.Told.{Told, gives, no}
+use Rattle.refusals.specs.Told.{Told, gives, refusal}
 use Rattle.frames.specs.Words.{fCode, wordIn, wordBytes}
 use Rattle.frames.specs.Rows.{reserved, dataBytes, blocks, blockBytes, frameBytes}
 use Rattle.frames.specs.Blocks.{rightBlocks, dataIn, framed}
@@ -69,40 +69,40 @@ module _ (f : ℕ) {allowed : Bool} {d size-of-frame count size : ℕ} (s : Shap
   data-within h = let e : count * size ≡ dataBytes f = ap₂ (λ (k m : ℕ). k * m) (s .3) (s .4) ∙ full f in omega (arith, s .1)
 
 module _ (f : ℕ) (w out : List ℕ) {allowed : Bool} {d size-of-frame count size : ℕ} (s : Shaped f allowed d size-of-frame count size) where
-  pub slave-read-3 : not allowed ≡ true → (no 3 ≡ slaveRead f w (length out)) × (out ≡ slaveReadOut f w out)
+  pub slave-read-3 : not allowed ≡ true → (refusal 3 ≡ slaveRead f w (length out)) × (out ≡ slaveReadOut f w out)
   unfolding slaveRead slaveReadOut
   slave-read-3 a =
       let r = is-reserved allowed (reserved f) (s .0) a in
-      (read-3 f w (length out) no (gives (dataBytes f ∷ [])) r, read-3 f w (length out) (λ k. out) (slaveData f w ++ drop (dataBytes f) out) r)
+      (read-3 f w (length out) refusal (gives (dataBytes f ∷ [])) r, read-3 f w (length out) (λ k. out) (slaveData f w ++ drop (dataBytes f) out) r)
 
   module _ (a : not allowed ≡ false) where
     allows : reserved f ≡ false
     allows = is-allowed allowed (reserved f) (s .0) a
 
-    pub slave-read-1 : (length w ≡ size-of-frame → ⊥) → (no 1 ≡ slaveRead f w (length out)) × (out ≡ slaveReadOut f w out)
+    pub slave-read-1 : (length w ≡ size-of-frame → ⊥) → (refusal 1 ≡ slaveRead f w (length out)) × (out ≡ slaveReadOut f w out)
     unfolding slaveRead slaveReadOut
     slave-read-1 b =
         let b' : length w ≡ frameBytes f → ⊥ = λ e. b (e ∙ sym (s .2)) in
-        (read-1 f w (length out) no (gives (dataBytes f ∷ [])) allows b', read-1 f w (length out) (λ k. out) (slaveData f w ++ drop (dataBytes f) out) allows b')
+        (read-1 f w (length out) refusal (gives (dataBytes f ∷ [])) allows b', read-1 f w (length out) (λ k. out) (slaveData f w ++ drop (dataBytes f) out) allows b')
 
-    pub slave-write-1 : (length w ≡ d → ⊥) → (no 1 ≡ slaveWrite f w (length out)) × (out ≡ slaveWriteOut f w out)
+    pub slave-write-1 : (length w ≡ d → ⊥) → (refusal 1 ≡ slaveWrite f w (length out)) × (out ≡ slaveWriteOut f w out)
     unfolding slaveWrite slaveWriteOut
     slave-write-1 b =
         let b' : length w ≡ dataBytes f → ⊥ = λ e. b (e ∙ sym (s .1)) in
-        (write-1 f w (length out) no (gives (frameBytes f ∷ [])) allows b', write-1 f w (length out) (λ k. out) (slaveFrame f w ++ drop (frameBytes f) out) allows b')
+        (write-1 f w (length out) refusal (gives (frameBytes f ∷ [])) allows b', write-1 f w (length out) (λ k. out) (slaveFrame f w ++ drop (frameBytes f) out) allows b')
 
-    pub slave-write-4 : length w ≡ d → length out < size-of-frame → (no 4 ≡ slaveWrite f w (length out)) × (out ≡ slaveWriteOut f w out)
+    pub slave-write-4 : length w ≡ d → length out < size-of-frame → (refusal 4 ≡ slaveWrite f w (length out)) × (out ≡ slaveWriteOut f w out)
     unfolding slaveWrite slaveWriteOut
     slave-write-4 b c =
         let c' : length out < frameBytes f = omega (arith, s .2) in
-        (write-4 f w (length out) no (gives (frameBytes f ∷ [])) allows (b ∙ s .1) c', write-4 f w (length out) (λ k. out) (slaveFrame f w ++ drop (frameBytes f) out) allows (b ∙ s .1) c')
+        (write-4 f w (length out) refusal (gives (frameBytes f ∷ [])) allows (b ∙ s .1) c', write-4 f w (length out) (λ k. out) (slaveFrame f w ++ drop (frameBytes f) out) allows (b ∙ s .1) c')
 
     pub slave-write-done : length w ≡ d → size-of-frame ≤ length out
         → (gives (size-of-frame ∷ []) ≡ slaveWrite f w (length out)) × (framed count size w ++ drop (count * (size + 1)) out ≡ slaveWriteOut f w out)
     unfolding slaveWrite slaveWriteOut slaveFrame
     slave-write-done b c =
         let c' : frameBytes f ≤ length out = omega (arith, s .2) in (
-          ap (λ (n : ℕ). gives (n ∷ [])) (s .2) ∙ write-done f w (length out) no (gives (frameBytes f ∷ [])) allows (b ∙ s .1) c',
+          ap (λ (n : ℕ). gives (n ∷ [])) (s .2) ∙ write-done f w (length out) refusal (gives (frameBytes f ∷ [])) allows (b ∙ s .1) c',
           ap₂ _++_ (ap₂ (λ (k n : ℕ). framed k n w) (s .3) (s .4)) (ap (λ (k : ℕ). drop k out) (ap₂ (λ (k n : ℕ). k * (n + 1)) (s .3) (s .4) ∙ whole f))
               ∙ write-done f w (length out) (λ k. out) (slaveFrame f w ++ drop (frameBytes f) out) allows (b ∙ s .1) c',
         )
@@ -111,38 +111,38 @@ module _ (f : ℕ) (w out : List ℕ) {allowed : Bool} {d size-of-frame count si
       right-is : right ≡ count → rightBlocks (blocks f) (blockBytes f) w ≡ blocks f
       right-is c = sym (r ∙ ap₂ (λ (k n : ℕ). rightBlocks k n w) (s .3) (s .4)) ∙ c ∙ s .3
 
-      pub slave-read-2 : (right ≡ count → ⊥) → (no 2 ≡ slaveRead f w (length out)) × (out ≡ slaveReadOut f w out)
+      pub slave-read-2 : (right ≡ count → ⊥) → (refusal 2 ≡ slaveRead f w (length out)) × (out ≡ slaveReadOut f w out)
       unfolding slaveRead slaveReadOut
       slave-read-2 c =
           let c' : rightBlocks (blocks f) (blockBytes f) w ≡ blocks f → ⊥ = λ e. c (r ∙ ap₂ (λ (k n : ℕ). rightBlocks k n w) (s .3) (s .4) ∙ e ∙ sym (s .3)) in
-          (read-2 f w (length out) no (gives (dataBytes f ∷ [])) allows (b ∙ s .2) c', read-2 f w (length out) (λ k. out) (slaveData f w ++ drop (dataBytes f) out) allows (b ∙ s .2) c')
+          (read-2 f w (length out) refusal (gives (dataBytes f ∷ [])) allows (b ∙ s .2) c', read-2 f w (length out) (λ k. out) (slaveData f w ++ drop (dataBytes f) out) allows (b ∙ s .2) c')
 
-      pub slave-read-4 : right ≡ count → length out < d → (no 4 ≡ slaveRead f w (length out)) × (out ≡ slaveReadOut f w out)
+      pub slave-read-4 : right ≡ count → length out < d → (refusal 4 ≡ slaveRead f w (length out)) × (out ≡ slaveReadOut f w out)
       unfolding slaveRead slaveReadOut
       slave-read-4 c g =
           let g' : length out < dataBytes f = omega (arith, s .1) in
-          (read-4 f w (length out) no (gives (dataBytes f ∷ [])) allows (b ∙ s .2) (right-is c) g', read-4 f w (length out) (λ k. out) (slaveData f w ++ drop (dataBytes f) out) allows (b ∙ s .2) (right-is c) g')
+          (read-4 f w (length out) refusal (gives (dataBytes f ∷ [])) allows (b ∙ s .2) (right-is c) g', read-4 f w (length out) (λ k. out) (slaveData f w ++ drop (dataBytes f) out) allows (b ∙ s .2) (right-is c) g')
 
       pub slave-read-done : right ≡ count → d ≤ length out
           → (gives (d ∷ []) ≡ slaveRead f w (length out)) × (dataIn count size w ++ drop (count * size) out ≡ slaveReadOut f w out)
       unfolding slaveRead slaveReadOut slaveData
       slave-read-done c g =
           let g' : dataBytes f ≤ length out = omega (arith, s .1) in (
-            ap (λ (n : ℕ). gives (n ∷ [])) (s .1) ∙ read-done f w (length out) no (gives (dataBytes f ∷ [])) allows (b ∙ s .2) (right-is c) g',
+            ap (λ (n : ℕ). gives (n ∷ [])) (s .1) ∙ read-done f w (length out) refusal (gives (dataBytes f ∷ [])) allows (b ∙ s .2) (right-is c) g',
             ap₂ _++_ (ap₂ (λ (k n : ℕ). dataIn k n w) (s .3) (s .4)) (ap (λ (k : ℕ). drop k out) (ap₂ (λ (k n : ℕ). k * n) (s .3) (s .4) ∙ full f))
                 ∙ read-done f w (length out) (λ k. out) (slaveData f w ++ drop (dataBytes f) out) allows (b ∙ s .2) (right-is c) g',
           )
 
-  pub slave-write-3 : not allowed ≡ true → (no 3 ≡ slaveWrite f w (length out)) × (out ≡ slaveWriteOut f w out)
+  pub slave-write-3 : not allowed ≡ true → (refusal 3 ≡ slaveWrite f w (length out)) × (out ≡ slaveWriteOut f w out)
   unfolding slaveWrite slaveWriteOut
   slave-write-3 a =
       let r = is-reserved allowed (reserved f) (s .0) a in
-      (write-3 f w (length out) no (gives (frameBytes f ∷ [])) r, write-3 f w (length out) (λ k. out) (slaveFrame f w ++ drop (frameBytes f) out) r)
+      (write-3 f w (length out) refusal (gives (frameBytes f ∷ [])) r, write-3 f w (length out) (λ k. out) (slaveFrame f w ++ drop (frameBytes f) out) r)
 
 -- ---- Master Frames and line answers
 
 module _ (w : List ℕ) where
-  pub master-read-1 : (length w ≡ 3 → ⊥) → no 1 ≡ masterRead w
+  pub master-read-1 : (length w ≡ 3 → ⊥) → refusal 1 ≡ masterRead w
   unfolding masterRead
   master-read-1 a = simp (ne-eqb (length w) 3 a)
 
@@ -155,7 +155,7 @@ module _ (w : List ℕ) where
   line-length a b = simp (ne-eqb (length w) 0 a, ne-eqb (length w) 3 b)
 
   module _ (a : length w ≡ 3) {right : ℕ} (r : right ≡ rightBlocks 1 2 w) where
-    pub master-read-2 : (right ≡ 1 → ⊥) → no 2 ≡ masterRead w
+    pub master-read-2 : (right ≡ 1 → ⊥) → refusal 2 ≡ masterRead w
     unfolding masterRead
     master-read-2 b = simp (eq-eqb (length w) 3 a, ne-eqb (rightBlocks 1 2 w) 1 (λ e. b (r ∙ e)))
 
@@ -168,7 +168,7 @@ module _ (w : List ℕ) where
       unfolding lineAnswer
       line-reply z = simp (ne-eqb (length w) 0 z, eq-eqb (length w) 3 a, eq-eqb (rightBlocks 1 2 w) 1 (sym r ∙ b), e)
 
-      pub master-read-3 : (f : ℕ) (allowed : Bool) → f ≡ fCode word → allowed ≡ not (reserved f) → not allowed ≡ true → no 3 ≡ masterRead w
+      pub master-read-3 : (f : ℕ) (allowed : Bool) → f ≡ fCode word → allowed ≡ not (reserved f) → not allowed ≡ true → refusal 3 ≡ masterRead w
       unfolding masterRead
       master-read-3 f allowed g h n =
           simp (eq-eqb (length w) 3 a, eq-eqb (rightBlocks 1 2 w) 1 (sym r ∙ b), ap (λ (x : ℕ). reserved (fCode x)) (sym e) ∙ ap reserved (sym g) ∙ is-reserved allowed (reserved f) h n)
@@ -179,7 +179,7 @@ module _ (w : List ℕ) where
           simp (eq-eqb (length w) 3 a, eq-eqb (rightBlocks 1 2 w) 1 (sym r ∙ b), ap (λ (x : ℕ). reserved (fCode x)) (sym e) ∙ ap reserved (sym g) ∙ is-allowed allowed (reserved f) h n, e)
 
 module _ (word f : ℕ) (out : List ℕ) (allowed : Bool) (g : f ≡ fCode word) (h : allowed ≡ not (reserved f)) where
-  pub master-write-3 : not allowed ≡ true → (no 3 ≡ masterWrite word (length out)) × (out ≡ masterWriteOut word out)
+  pub master-write-3 : not allowed ≡ true → (refusal 3 ≡ masterWrite word (length out)) × (out ≡ masterWriteOut word out)
   unfolding masterWrite masterWriteOut
   master-write-3 n = let r : reserved (fCode word) ≡ true = ap reserved (sym g) ∙ is-reserved allowed (reserved f) h n in (simp r, simp r)
 
@@ -187,7 +187,7 @@ module _ (word f : ℕ) (out : List ℕ) (allowed : Bool) (g : f ≡ fCode word)
     allowed-word : reserved (fCode word) ≡ false
     allowed-word = ap reserved (sym g) ∙ is-allowed allowed (reserved f) h n
 
-    pub master-write-4 : length out < 3 → (no 4 ≡ masterWrite word (length out)) × (out ≡ masterWriteOut word out)
+    pub master-write-4 : length out < 3 → (refusal 4 ≡ masterWrite word (length out)) × (out ≡ masterWriteOut word out)
     unfolding masterWrite masterWriteOut
     master-write-4 b = (simp (allowed-word, lt-ltb (length out) 3 b), simp (allowed-word, lt-ltb (length out) 3 b))
 

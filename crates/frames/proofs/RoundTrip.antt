@@ -13,7 +13,7 @@ use lib.Pow.{areBytes}
 use lib.ListN.{length, getD, take, drop, length-append, length-drop, take-append-drop}
 use lib.Seq.{take-at, drop-at, getD-at, drop-drop, length-take-le, split-at, take-length}
 use Rattle.checks.specs.Check.{checkOf}
-use Rattle.refusals.specs.Told.{Told, gives, refused, no}
+use Rattle.refusals.specs.Told.{Told, gives, refused, refusal}
 use Rattle.frames.specs.Words.{fCode, wordIn, wordBytes}
 use Rattle.frames.specs.Rows.{reserved, dataBytes, blocks, blockBytes, frameBytes}
 use Rattle.frames.specs.Blocks.{framed, dataIn, rightBlocks}
@@ -108,10 +108,10 @@ right-framed (suc k) n w e r =
 
 -- ---- answers that are no refusal came past every check
 
-no-gives : (k : ℕ) (v : List ℕ) → no k ≡ gives v → ⊥
+no-gives : (k : ℕ) (v : List ℕ) → refusal k ≡ gives v → ⊥
 no-gives k v h = let z : _≡_ {A = ℕ} 0 1 = cc in omega arith
 
-past : (t : Bool) (k : ℕ) (u : Told) (v : List ℕ) → cond t (no k) u ≡ gives v → (t ≡ false) × (u ≡ gives v)
+past : (t : Bool) (k : ℕ) (u : Told) (v : List ℕ) → cond t (refusal k) u ≡ gives v → (t ≡ false) × (u ≡ gives v)
 past true k u v h = absurd (no-gives k v h)
 past false k u v h = (refl, h)
 
@@ -149,14 +149,14 @@ slave-out : (f : ℕ) (d out : List ℕ) → reserved f ≡ false → length d �
     → (slaveWrite f d (length out) ≡ gives (frameBytes f ∷ [])) × (slaveWriteOut f d out ≡ slaveFrame f d ++ drop (frameBytes f) out)
 unfolding slaveWrite slaveWriteOut
 slave-out f d out a e r =
-    (sym (write-done f d (length out) no (gives (frameBytes f ∷ [])) a e r), sym (write-done f d (length out) (λ k. out) (slaveFrame f d ++ drop (frameBytes f) out) a e r))
+    (sym (write-done f d (length out) refusal (gives (frameBytes f ∷ [])) a e r), sym (write-done f d (length out) (λ k. out) (slaveFrame f d ++ drop (frameBytes f) out) a e r))
 
 -- what is read
 slave-in : (f : ℕ) (w out : List ℕ) → reserved f ≡ false → length w ≡ frameBytes f → rightBlocks (blocks f) (blockBytes f) w ≡ blocks f → dataBytes f ≤ length out
     → (slaveRead f w (length out) ≡ gives (dataBytes f ∷ [])) × (slaveReadOut f w out ≡ slaveData f w ++ drop (dataBytes f) out)
 unfolding slaveRead slaveReadOut
 slave-in f w out a e c r =
-    (sym (read-done f w (length out) no (gives (dataBytes f ∷ [])) a e c r), sym (read-done f w (length out) (λ k. out) (slaveData f w ++ drop (dataBytes f) out) a e c r))
+    (sym (read-done f w (length out) refusal (gives (dataBytes f ∷ [])) a e c r), sym (read-done f w (length out) (λ k. out) (slaveData f w ++ drop (dataBytes f) out) a e c r))
 
 -- "what we write, our reader gives back"
 pub slave-written-is-read : (f n : ℕ) (d out back : List ℕ) → slaveWrite f d (length out) ≡ gives (n ∷ []) → length d ≤ length back

@@ -5,7 +5,7 @@ use mathlib.Core.List.{List, [], _∷_, _++_}
 use Prim.Native.Nat.{ℕ}
 use lib.Dec.{eqb, ltb}
 use lib.ListN.{length, drop}
-use Rattle.refusals.specs.Told.{Told, gives, no}
+use Rattle.refusals.specs.Told.{Told, gives, refusal}
 use Rattle.frames.specs.Words.{fCode, wordBytes, wordIn}
 use Rattle.frames.specs.Rows.{reserved}
 use Rattle.frames.specs.Blocks.{framed, allRight}
@@ -17,9 +17,9 @@ masterFrame word = framed 1 2 (wordBytes word)
 -- "Master read: 1, 2, 3"
 unfoldable pub masterRead : List ℕ → Told
 masterRead w =
-    cond (not (eqb (length w) 3)) (no 1)
-    (cond (not (allRight 1 2 w)) (no 2)
-    (cond (reserved (fCode (wordIn w))) (no 3)
+    cond (not (eqb (length w) 3)) (refusal 1)
+    (cond (not (allRight 1 2 w)) (refusal 2)
+    (cond (reserved (fCode (wordIn w))) (refusal 3)
     (gives (wordIn w ∷ []))))
 
 -- "Master write, of a word: 3, 4"
@@ -28,7 +28,7 @@ masterWriteBy word room refused done = cond (reserved (fCode word)) (refused 3) 
 
 -- what it answers: the frame's bytes
 unfoldable pub masterWrite : ℕ → ℕ → Told
-masterWrite word room = masterWriteBy word room no (gives (3 ∷ []))
+masterWrite word room = masterWriteBy word room refusal (gives (3 ∷ []))
 
 -- the output afterwards: "Bytes of a lent output beyond the answer stay unchanged"
 unfoldable pub masterWriteOut : ℕ → List ℕ → List ℕ

@@ -5,7 +5,7 @@ use mathlib.Core.List.{List, [], _∷_, _++_}
 use Prim.Native.Nat.{ℕ}
 use lib.Dec.{eqb, ltb}
 use lib.ListN.{length, drop}
-use Rattle.refusals.specs.Told.{Told, gives, no}
+use Rattle.refusals.specs.Told.{Told, gives, refusal}
 use Rattle.frames.specs.Rows.{reserved, dataBytes, blocks, blockBytes, frameBytes}
 use Rattle.frames.specs.Blocks.{framed, dataIn, allRight}
 
@@ -28,7 +28,7 @@ slaveReadBy f w room refused done =
 
 -- what it answers: the data's bytes
 unfoldable pub slaveRead : ℕ → List ℕ → ℕ → Told
-slaveRead f w room = slaveReadBy f w room no (gives (dataBytes f ∷ []))
+slaveRead f w room = slaveReadBy f w room refusal (gives (dataBytes f ∷ []))
 
 -- the output afterwards: "Bytes of a lent output beyond the answer stay unchanged"
 unfoldable pub slaveReadOut : ℕ → List ℕ → List ℕ → List ℕ
@@ -44,7 +44,7 @@ slaveWriteBy f d room refused done =
 
 -- what it answers: the frame's bytes
 unfoldable pub slaveWrite : ℕ → List ℕ → ℕ → Told
-slaveWrite f d room = slaveWriteBy f d room no (gives (frameBytes f ∷ []))
+slaveWrite f d room = slaveWriteBy f d room refusal (gives (frameBytes f ∷ []))
 
 -- the output afterwards
 unfoldable pub slaveWriteOut : ℕ → List ℕ → List ℕ → List ℕ

@@ -11,9 +11,9 @@ pub data Told : Type 0 where
   refused : ℕ → List ℕ → Told
 
 -- "A refusal returns its number only"
-abbrev pub refusing : Refusal → Told
-refusing r = refused (numberOf r) []
+abbrev pub refusal : ℕ → Told
+refusal n = refused n []
 
--- the same of a number that a definition names
-abbrev pub no : ℕ → Told
-no n = refused n []
+-- the same of a refusal by its name
+abbrev pub refusing : Refusal → Told
+refusing r = refusal (numberOf r)

@@ -1,6 +1,7 @@
 // The refusals of document 01, by name. Its table gives each a number.
 ghost use mathlib.Core.Path.{_≡_};
 ghost use Rattle.refusals.specs.Refusals.{numberOf};
+ghost use Rattle.refusals.specs.Codes.{codeOf};
 
 pub enum Refusal {
     WrongLength,
@@ -51,4 +52,17 @@ impl Refusal {
             Refusal::TooManyFrames => 19,
         }
     }
+
+    // How C sees this refusal.
+    pub fn code(self) -> u32
+        ensures { λ r. ⌜ r ≡ codeOf self ⌝ }
+    {
+        65536 + wide(self.number())
+    }
+}
+
+fn wide(number: u8) -> u32
+    ensures { λ r. ⌜ r ≡ number ⌝ }
+{
+    number as u32
 }

@@ -8,13 +8,13 @@ use native.Mathlib.Omega.{arith}
 use borrow.Author.Tests.{eq-eqb, ne-eqb, le-leb, lt-leb, not-true, not-false}
 use lib.Dec.{eqb, leb}
 use lib.ListN.{getD}
-use Rattle.refusals.specs.Told.{Told, gives, no}
+use Rattle.refusals.specs.Told.{Told, gives, refusal}
 use Rattle.frames.specs.Rows.{reserved, lineBits, rowOf, frameBytes}
 use Rattle.frames.proofs.Rows.{row-allowed, line-is, whole-most}
-use Rattle.timing.specs.Timing.{telegramBits, gapInRange, timedBy, telegramAnswer, guardAnswer, yes, not-now}
+use Rattle.timing.specs.Timing.{telegramBits, gapInRange, timedBy, telegramAnswer, guardAnswer, may, mayNot}
 
 module _ (f gap : ℕ) (row : List ℕ) (e : row ≡ rowOf f) where
-  pub telegram-3 : (getD row 3 0 ≡ 1 → ⊥) → no 3 ≡ telegramAnswer f gap
+  pub telegram-3 : (getD row 3 0 ≡ 1 → ⊥) → refusal 3 ≡ telegramAnswer f gap
   unfolding telegramAnswer
   telegram-3 h = simp (not-false (reserved f) (sym (row-allowed f row e) ∙ ne-eqb (getD row 3 0) 1 h))
 
@@ -29,11 +29,11 @@ module _ (f gap : ℕ) (row : List ℕ) (e : row ≡ rowOf f) where
     unfolding lineBits
     line-most = let b : getD row 2 0 ≡ lineBits f = line-bits in omega (arith, whole-most f)
 
-    pub telegram-6-below : gap < 4 → no 6 ≡ telegramAnswer f gap
+    pub telegram-6-below : gap < 4 → refusal 6 ≡ telegramAnswer f gap
     unfolding telegramAnswer
     telegram-6-below g = simp (allowed, lt-leb 4 gap g)
 
-    pub telegram-6-above : 4 ≤ gap → 128 < gap → no 6 ≡ telegramAnswer f gap
+    pub telegram-6-above : 4 ≤ gap → 128 < gap → refusal 6 ≡ telegramAnswer f gap
     unfolding telegramAnswer
     telegram-6-above g k = simp (allowed, le-leb 4 gap g, lt-leb gap 128 k)
 
@@ -43,17 +43,17 @@ module _ (f gap : ℕ) (row : List ℕ) (e : row ≡ rowOf f) where
 
 -- ---- the guard follows the telegram's time
 
-never : (k n : ℕ) → gives (n ∷ []) ≡ no k → ⊥
+never : (k n : ℕ) → gives (n ∷ []) ≡ refusal k → ⊥
 never k n h = let z : _≡_ {A = ℕ} 0 1 = cc in omega arith
 
 -- values came past both checks
-after : (a b : Bool) (n : ℕ) (t : Told) → gives (n ∷ []) ≡ cond a (no 3) (cond b (no 6) t) → (a ≡ false) × (b ≡ false) × (t ≡ gives (n ∷ []))
+after : (a b : Bool) (n : ℕ) (t : Told) → gives (n ∷ []) ≡ cond a (refusal 3) (cond b (refusal 6) t) → (a ≡ false) × (b ≡ false) × (t ≡ gives (n ∷ []))
 after true b n t h = absurd (never 3 n h)
 after false true n t h = absurd (never 6 n h)
 after false false n t h = (refl, refl, sym h)
 
 module _ (left gap f bits : ℕ) (e : gives (bits ∷ []) ≡ telegramAnswer f gap) where
-  fits : guardAnswer left gap f ≡ cond (leb bits left) yes not-now
+  fits : guardAnswer left gap f ≡ cond (leb bits left) may mayNot
   unfolding telegramAnswer guardAnswer
   fits =
       let p = after (reserved f) (not (gapInRange gap)) bits (gives (telegramBits f gap ∷ [])) e in
@@ -61,17 +61,17 @@ module _ (left gap f bits : ℕ) (e : gives (bits ∷ []) ≡ telegramAnswer f g
       let n : telegramBits f gap ≡ bits = cc in
       simp (p .0, p .1, n)
 
-  pub guard-yes : bits ≤ left → yes ≡ guardAnswer left gap f
-  guard-yes h = sym (fits ∙ ap (λ (b : Bool). cond b yes not-now) (le-leb bits left h))
+  pub guard-may : bits ≤ left → may ≡ guardAnswer left gap f
+  guard-may h = sym (fits ∙ ap (λ (b : Bool). cond b may mayNot) (le-leb bits left h))
 
-  pub guard-no : left < bits → not-now ≡ guardAnswer left gap f
-  guard-no h = sym (fits ∙ ap (λ (b : Bool). cond b yes not-now) (lt-leb bits left h))
+  pub guard-may-not : left < bits → mayNot ≡ guardAnswer left gap f
+  guard-may-not h = sym (fits ∙ ap (λ (b : Bool). cond b may mayNot) (lt-leb bits left h))
 
-pub guard-refused : (left gap f n : ℕ) → no n ≡ telegramAnswer f gap → no n ≡ guardAnswer left gap f
+pub guard-refused : (left gap f n : ℕ) → refusal n ≡ telegramAnswer f gap → refusal n ≡ guardAnswer left gap f
 unfolding telegramAnswer guardAnswer
 guard-refused left gap f n e = go (reserved f) (not (gapInRange gap)) e
   where
-    go : (a b : Bool) → no n ≡ cond a (no 3) (cond b (no 6) (gives (telegramBits f gap ∷ []))) → no n ≡ cond a (no 3) (cond b (no 6) (cond (leb (telegramBits f gap) left) yes not-now))
+    go : (a b : Bool) → refusal n ≡ cond a (refusal 3) (cond b (refusal 6) (gives (telegramBits f gap ∷ []))) → refusal n ≡ cond a (refusal 3) (cond b (refusal 6) (cond (leb (telegramBits f gap) left) may mayNot))
     go true b h = h
     go false true h = h
     go false false h = let z : _≡_ {A = ℕ} 0 1 = cc in absurd (omega arith)

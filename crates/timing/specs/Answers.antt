@@ -2,7 +2,7 @@
 -- Assumes nothing.
 use mathlib.Core.List.{[], _∷_}
 use Rattle.refusals.specs.Told.{Told, gives, refusing}
-use Rattle.timing.specs.Timing.{yes, not-now}
+use Rattle.timing.specs.Timing.{may, mayNot}
 use Rattle.timing.specs.declared.Telegram.{Telegram}
 use Rattle.timing.specs.declared.Telegram.the-variants as Telegram'
 use Rattle.timing.specs.declared.MaySend.{MaySend}
@@ -15,6 +15,6 @@ toldTelegram (Telegram'.Refused r) = refusing r
 
 -- of the guard: yes or no
 abbrev pub toldMaySend : MaySend → Told
-toldMaySend MaySend'.Yes = yes
-toldMaySend MaySend'.No = not-now
+toldMaySend MaySend'.Yes = may
+toldMaySend MaySend'.No = mayNot
 toldMaySend (MaySend'.Refused r) = refusing r

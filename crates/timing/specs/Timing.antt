@@ -4,7 +4,7 @@ use mathlib.Core.Bool.{Bool, cond, not, _&&_}
 use mathlib.Core.List.{[], _∷_}
 use Prim.Native.Nat.{ℕ, _+_}
 use lib.Dec.{leb}
-use Rattle.refusals.specs.Told.{Told, gives, no}
+use Rattle.refusals.specs.Told.{Told, gives, refusal}
 use Rattle.frames.specs.Rows.{reserved, lineBits}
 
 -- "A telegram takes 33 + line bits of its Slave Frame + gap"
@@ -21,16 +21,16 @@ timedBy f gap refused done = cond (reserved f) (refused 3) (cond (not (gapInRang
 
 -- what asking for a telegram's time answers
 unfoldable pub telegramAnswer : ℕ → ℕ → Told
-telegramAnswer f gap = timedBy f gap no (gives (telegramBits f gap ∷ []))
+telegramAnswer f gap = timedBy f gap refusal (gives (telegramBits f gap ∷ []))
 
--- the guard's two answers, as numbers
-abbrev pub yes : Told
-yes = gives (1 ∷ [])
+-- "yes", as a number
+abbrev pub may : Told
+may = gives (1 ∷ [])
 
--- the other
-abbrev pub not-now : Told
-not-now = gives (0 ∷ [])
+-- and no
+abbrev pub mayNot : Told
+mayNot = gives (0 ∷ [])
 
 -- "with r bit times left, a gap and an F_code, yes exactly if that telegram takes at most r"
 unfoldable pub guardAnswer : ℕ → ℕ → ℕ → Told
-guardAnswer left gap f = timedBy f gap no (cond (leb (telegramBits f gap) left) yes not-now)
+guardAnswer left gap f = timedBy f gap refusal (cond (leb (telegramBits f gap) left) may mayNot)

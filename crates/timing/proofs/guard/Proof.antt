@@ -4,19 +4,19 @@ use mathlib.Core.Path.{sym, ap, _∙_}
 use native.Mathlib.Omega.{arith}
 use borrow.Author.Needs.{needs}
 use Rattle.timing.specs.Answers.{toldTelegram}
-use Rattle.timing.proofs.Order.{guard-yes, guard-no, guard-refused}
+use Rattle.timing.proofs.Order.{guard-may, guard-may-not, guard-refused}
 use Rattle.timing.proofs.guard.Statement.{statement}
 use Rattle.timing.proofs.guard.Tie as tie
 
 returns : tie.Need-returns
 returns c =
     let told : tie.After-bits = c .before .before .before in
-    guard-yes _ _ _ (told .bits .given .0 .0) (ap toldTelegram (sym (told .bits .given .1)) ∙ told .before .before .telegram-bits .ensures) (omega (arith, c .before .wide .ensures, c .if1 .taken))
+    guard-may _ _ _ (told .bits .given .0 .0) (ap toldTelegram (sym (told .bits .given .1)) ∙ told .before .before .telegram-bits .ensures) (omega (arith, c .before .wide .ensures, c .if1 .taken))
 
 returns-2 : tie.Need-returns-2
 returns-2 c =
     let told : tie.After-bits = c .before .before .before in
-    guard-no _ _ _ (told .bits .given .0 .0) (ap toldTelegram (sym (told .bits .given .1)) ∙ told .before .before .telegram-bits .ensures) (omega (arith, c .before .wide .ensures, c .if1 .left))
+    guard-may-not _ _ _ (told .bits .given .0 .0) (ap toldTelegram (sym (told .bits .given .1)) ∙ told .before .before .telegram-bits .ensures) (omega (arith, c .before .wide .ensures, c .if1 .left))
 
 returns-3 : tie.Need-returns-3
 returns-3 c = guard-refused _ _ _ _ (ap toldTelegram (sym (c .before .r .given .1)) ∙ c .before .before .before .telegram-bits .ensures)
