@@ -73,7 +73,7 @@ module _ (f : ℕ) (w out : List ℕ) {allowed : Bool} {d size-of-frame count si
   unfolding slaveRead slaveReadOut
   slave-read-3 a =
       let r = is-reserved allowed (reserved f) (s .0) a in
-      (read-3 f w (length out) refusal (gives (dataBytes f ∷ [])) r, read-3 f w (length out) (λ k. out) (slaveData f w ++ drop (dataBytes f) out) r)
+      (read-3 f w (length out) refusal _ r, read-3 f w (length out) (λ k. out) _ r)
 
   module _ (a : not allowed ≡ false) where
     allows : reserved f ≡ false
@@ -83,19 +83,19 @@ module _ (f : ℕ) (w out : List ℕ) {allowed : Bool} {d size-of-frame count si
     unfolding slaveRead slaveReadOut
     slave-read-1 b =
         let b' : length w ≡ frameBytes f → ⊥ = λ e. b (e ∙ sym (s .2)) in
-        (read-1 f w (length out) refusal (gives (dataBytes f ∷ [])) allows b', read-1 f w (length out) (λ k. out) (slaveData f w ++ drop (dataBytes f) out) allows b')
+        (read-1 f w (length out) refusal _ allows b', read-1 f w (length out) (λ k. out) _ allows b')
 
     pub slave-write-1 : (length w ≡ d → ⊥) → (refusal 1 ≡ slaveWrite f w (length out)) × (out ≡ slaveWriteOut f w out)
     unfolding slaveWrite slaveWriteOut
     slave-write-1 b =
         let b' : length w ≡ dataBytes f → ⊥ = λ e. b (e ∙ sym (s .1)) in
-        (write-1 f w (length out) refusal (gives (frameBytes f ∷ [])) allows b', write-1 f w (length out) (λ k. out) (slaveFrame f w ++ drop (frameBytes f) out) allows b')
+        (write-1 f w (length out) refusal _ allows b', write-1 f w (length out) (λ k. out) _ allows b')
 
     pub slave-write-4 : length w ≡ d → length out < size-of-frame → (refusal 4 ≡ slaveWrite f w (length out)) × (out ≡ slaveWriteOut f w out)
     unfolding slaveWrite slaveWriteOut
     slave-write-4 b c =
         let c' : length out < frameBytes f = omega (arith, s .2) in
-        (write-4 f w (length out) refusal (gives (frameBytes f ∷ [])) allows (b ∙ s .1) c', write-4 f w (length out) (λ k. out) (slaveFrame f w ++ drop (frameBytes f) out) allows (b ∙ s .1) c')
+        (write-4 f w (length out) refusal _ allows (b ∙ s .1) c', write-4 f w (length out) (λ k. out) _ allows (b ∙ s .1) c')
 
     pub slave-write-done : length w ≡ d → size-of-frame ≤ length out
         → (gives (size-of-frame ∷ []) ≡ slaveWrite f w (length out)) × (framed count size w ++ drop (count * (size + 1)) out ≡ slaveWriteOut f w out)
@@ -115,13 +115,13 @@ module _ (f : ℕ) (w out : List ℕ) {allowed : Bool} {d size-of-frame count si
       unfolding slaveRead slaveReadOut
       slave-read-2 c =
           let c' : rightBlocks (blocks f) (blockBytes f) w ≡ blocks f → ⊥ = λ e. c (r ∙ ap₂ (λ (k n : ℕ). rightBlocks k n w) (s .3) (s .4) ∙ e ∙ sym (s .3)) in
-          (read-2 f w (length out) refusal (gives (dataBytes f ∷ [])) allows (b ∙ s .2) c', read-2 f w (length out) (λ k. out) (slaveData f w ++ drop (dataBytes f) out) allows (b ∙ s .2) c')
+          (read-2 f w (length out) refusal _ allows (b ∙ s .2) c', read-2 f w (length out) (λ k. out) _ allows (b ∙ s .2) c')
 
       pub slave-read-4 : right ≡ count → length out < d → (refusal 4 ≡ slaveRead f w (length out)) × (out ≡ slaveReadOut f w out)
       unfolding slaveRead slaveReadOut
       slave-read-4 c g =
           let g' : length out < dataBytes f = omega (arith, s .1) in
-          (read-4 f w (length out) refusal (gives (dataBytes f ∷ [])) allows (b ∙ s .2) (right-is c) g', read-4 f w (length out) (λ k. out) (slaveData f w ++ drop (dataBytes f) out) allows (b ∙ s .2) (right-is c) g')
+          (read-4 f w (length out) refusal _ allows (b ∙ s .2) (right-is c) g', read-4 f w (length out) (λ k. out) _ allows (b ∙ s .2) (right-is c) g')
 
       pub slave-read-done : right ≡ count → d ≤ length out
           → (gives (d ∷ []) ≡ slaveRead f w (length out)) × (dataIn count size w ++ drop (count * size) out ≡ slaveReadOut f w out)
@@ -137,7 +137,7 @@ module _ (f : ℕ) (w out : List ℕ) {allowed : Bool} {d size-of-frame count si
   unfolding slaveWrite slaveWriteOut
   slave-write-3 a =
       let r = is-reserved allowed (reserved f) (s .0) a in
-      (write-3 f w (length out) refusal (gives (frameBytes f ∷ [])) r, write-3 f w (length out) (λ k. out) (slaveFrame f w ++ drop (frameBytes f) out) r)
+      (write-3 f w (length out) refusal _ r, write-3 f w (length out) (λ k. out) _ r)
 
 -- ---- Master Frames and line answers
 
