@@ -6,3 +6,4 @@ pub mod Apart
 pub mod RoundTrip
 pub mod Distance
 pub mod LineLaws
+pub mod Small

@@ -128,7 +128,7 @@ slave-accepted f w room n h =
     (p3 .0, eqb-true (length w) (frameBytes f) (not-false _ (p1 .0)), eqb-true (rightBlocks (blocks f) (blockBytes f) w) (blocks f) (not-false _ (p2 .0)), ltb-false room (dataBytes f) (p4 .0), (let q : dataBytes f ≡ n = cc in q))
 
 -- what a written Slave Frame is
-slave-written : (f : ℕ) (d : List ℕ) (room n : ℕ) → slaveWrite f d room ≡ gives (n ∷ [])
+pub slave-written : (f : ℕ) (d : List ℕ) (room n : ℕ) → slaveWrite f d room ≡ gives (n ∷ [])
     → (reserved f ≡ false) × (length d ≡ dataBytes f) × (frameBytes f ≤ room) × (frameBytes f ≡ n)
 unfolding slaveWrite
 slave-written f d room n h =
@@ -224,7 +224,7 @@ unfolding masterRead
 master-in w a b c = simp (eq-eqb (length w) 3 a, eq-eqb (rightBlocks 1 2 w) 1 b, c)
 
 -- what was written
-master-written : (word room n : ℕ) → masterWrite word room ≡ gives (n ∷ []) → (reserved (fCode word) ≡ false) × (3 ≤ room) × (3 ≡ n)
+pub master-written : (word room n : ℕ) → masterWrite word room ≡ gives (n ∷ []) → (reserved (fCode word) ≡ false) × (3 ≤ room) × (3 ≡ n)
 unfolding masterWrite
 master-written word room n h =
     let p3 = past _ 3 _ (n ∷ []) h in

@@ -1,0 +1,3 @@
+// The C face: every entry point as C calls it (include/mvb.h).
+mod frame_calls;
+mod timing_calls;
