@@ -1,2 +1,6 @@
 pub mod Apart
 pub mod Steps
+pub mod Heart
+pub mod Copper
+pub mod Events
+pub mod Any

@@ -1,2 +1,5 @@
 pub mod Rounds
 pub mod Told
+pub mod Lines
+pub mod Walks
+pub mod Demand

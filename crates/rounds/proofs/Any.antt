@@ -1,0 +1,2 @@
+-- to come
+-- Assumes nothing.
