@@ -3,4 +3,5 @@ pub mod Steps
 pub mod Heart
 pub mod Copper
 pub mod Events
+pub mod Runs
 pub mod Any
