@@ -63,3 +63,27 @@ module _ (S : ℕ → Bool) where
       go [] f h = omega (arith, pow-pos m)
       go (a ∷ []) f h = omega (arith, pow-pos m)
       go (a ∷ b ∷ l) f h = h
+
+  -- ---- one request for at most one device; more for several
+  pub once : (m c : ℕ) → length (devices S m c) ≤ 1 → searchOf S m c .requests ≡ 1
+  unfolding searchOf
+  once zero c h = refl
+  once (suc m) c h = go (devices S (suc m) c) (both (searchOf S m c) (searchOf S m (upC m c))) h
+    where
+      go : (l : List ℕ) (f : Found) → length l ≤ 1 → ask l f .requests ≡ 1
+      go [] f h = refl
+      go (a ∷ []) f h = refl
+      go (a ∷ b ∷ l) f h = absurd (omega arith)
+
+  pub collided : (m c : ℕ) → 2 ≤ length (devices S (suc m) c) → searchOf S (suc m) c .requests ≡ 1 + (searchOf S m c .requests + searchOf S m (upC m c) .requests)
+  unfolding searchOf
+  collided m c h = go (devices S (suc m) c) (both (searchOf S m c) (searchOf S m (upC m c))) h
+    where
+      go : (l : List ℕ) (f : Found) → 2 ≤ length l → ask l f .requests ≡ f .requests
+      go [] f h = absurd (omega arith)
+      go (a ∷ []) f h = absurd (omega arith)
+      go (a ∷ b ∷ l) f h = refl
+
+  pub halved : (m c : ℕ) → devices S (suc m) c ≡ devices S m c ++ devices S m (upC m c)
+  unfolding devices
+  halved m c = refl

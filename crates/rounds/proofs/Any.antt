@@ -64,7 +64,7 @@ module _ (line : Line) (p : ℕ) (h : p ≤ 4095) where
       let r : Reaches (onLine line) (begun p) final = rw (started p h) (heart 8190 follows (on-line line) walk top (lit≤ tt) (all-few .0)) in
       reached r
 
-  ended-here : (n : ℕ) → 12287 ≤ n → run line p n ≡ final
+  pub ended-here : (n : ℕ) → 12287 ≤ n → run line p n ≡ final
   ended-here n l =
       let w = whole-round in
       let s = sends 8190 follows (on-line line) walk refl in

@@ -5,3 +5,5 @@ pub mod Copper
 pub mod Events
 pub mod Runs
 pub mod Any
+pub mod Truth
+pub mod Exists
