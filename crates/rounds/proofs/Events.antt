@@ -169,22 +169,26 @@ module _ (line : Line) (p : ℕ) (h : p ≤ 4095) where
   right-waits : (sent : List ℕ) (ph : Phase) (m c w : ℕ) (k : Counts) → Waits sent m c k w ph → Right line sent (Next (round ph m c k) w)
   right-waits sent Asked m c w k x =
       let a : Asks m c w = subst (λ (y : ℕ). Asks m c y) (sym (x .1)) (asks p m c h (x .0)) in
-      let n = x .2 in
-      (refl, record {
-        requests = n .requests;
-        reads = simp (a .no-read) (n .reads);
-        unresolved = n .unresolved;
-        handed-out = simp (a .request) (ap (λ (y : ℕ). y + 1) (sym (n .requests)));
-      })
+      let n = x .2 in (
+        refl,
+        record {
+          requests = n .requests;
+          reads = simp (a .no-read) (n .reads);
+          unresolved = n .unresolved;
+          handed-out = simp (a .request) (ap (λ (y : ℕ). y + 1) (sym (n .requests)));
+        },
+      )
   right-waits sent Read m c w k x =
       let e = x .1 in
-      let n = x .2 in
-      (refl, record {
-        requests = n .requests;
-        reads = rw e (n .reads);
-        unresolved = n .unresolved;
-        handed-out = rw e (omega (arith, n .requests));
-      })
+      let n = x .2 in (
+        refl,
+        record {
+          requests = n .requests;
+          reads = rw e (n .reads);
+          unresolved = n .unresolved;
+          handed-out = rw e (omega (arith, n .requests));
+        },
+      )
   right-waits sent Ended m c w k x = absurd x
 
   pub right : (sent : List ℕ) (s : Step) → Known sent s → ((n : _) → s ≡ Refused n → ⊥) → Right line sent s
@@ -192,11 +196,14 @@ module _ (line : Line) (p : ℕ) (h : p ≤ 4095) where
   right sent (End r j) k f =
       let n : Numbers line sent 0 (countsOf r) = subst (λ (y : Counts). Numbers line sent 0 y) (k .1) (k .2) in
       let n₁ = n .requests in
-      let n₂ = n .reads in
-      (ap ended (k .0), k .1, record {
-        requests = n₁;
-        reads = omega arith;
-        unresolved = n .unresolved;
-        handed-out = rw (k .0) (omega arith);
-      })
+      let n₂ = n .reads in (
+        ap ended (k .0),
+        k .1,
+        record {
+          requests = n₁;
+          reads = omega arith;
+          unresolved = n .unresolved;
+          handed-out = rw (k .0) (omega arith);
+        },
+      )
   right sent (Refused n) k f = absurd (f n refl)
