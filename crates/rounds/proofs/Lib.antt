@@ -7,3 +7,4 @@ pub mod Runs
 pub mod Any
 pub mod Truth
 pub mod Exists
+pub mod Demand
