@@ -105,7 +105,13 @@ fn number(n: u16) {
 
 // The word in four hex digits with capitals.
 fn hex(word: u16, after: u8) {
-    let text = [digit(word / 4096), digit(word / 256), digit(word / 16), digit(word), after];
+    let text = [
+        digit(word / 4096),
+        digit(word / 256),
+        digit(word / 16),
+        digit(word),
+        after,
+    ];
     io::write_all(1, &text);
 }
 
