@@ -12,7 +12,9 @@ use Rattle.groups.specs.Search.{Found, searchOf}
 use Rattle.rounds.specs.declared.Step.the-variants.{Refused}
 use Rattle.rounds.specs.Lines.{Line, History, run, Right, Ending}
 use Rattle.rounds.specs.Demand.{Truthful, AllRead}
+use Rattle.rounds.specs.Bytes.{ByteLine, MadeFrom, TruthfulBytes}
 use Rattle.rounds.proofs.Any as any
+use Rattle.rounds.proofs.Bytes.{bytes-truthful, trueBytes, bytes-exist}
 use Rattle.rounds.proofs.Truth.{all-read}
 use Rattle.rounds.proofs.Exists as true-line
 
@@ -34,6 +36,14 @@ reads-all S p h line t n l = subst (λ (x : History). AllRead S x) (sym (any.end
 -- and there is such a line for each set
 pub some-line : (S : ℕ → Bool) (p : ℕ) → p ≤ 4095 → Truthful S p (true-line.trueLine S)
 some-line = true-line.exists
+
+-- the same over bytes: "silence for none, a collision for several, and for one the frame that names that device's own message"
+pub reads-all-bytes : (S : ℕ → Bool) (p : ℕ) → p ≤ 4095 → (bytes : ByteLine) (line : Line) → MadeFrom bytes line → TruthfulBytes S p bytes line →
+    (n : ℕ) → 12287 ≤ n → AllRead S (run line p n)
+reads-all-bytes S p h bytes line made t n l = reads-all S p h line (bytes-truthful S p bytes line made t) n l
+
+pub some-bytes : (S : ℕ → Bool) (p : ℕ) → p ≤ 4095 → MadeFrom (trueBytes S) (true-line.trueLine S) × TruthfulBytes S p (trueBytes S) (true-line.trueLine S)
+some-bytes = bytes-exist
 
 -- ---- {000, 800} meets the bound for k = 2: 25 requests
 pub pair : ℕ → Bool

@@ -7,4 +7,5 @@ pub mod Runs
 pub mod Any
 pub mod Truth
 pub mod Exists
+pub mod Bytes
 pub mod Demand

@@ -3,3 +3,4 @@ pub mod Told
 pub mod Lines
 pub mod Walks
 pub mod Demand
+pub mod Bytes

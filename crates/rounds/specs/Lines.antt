@@ -31,28 +31,33 @@ then step sent (Next r word) = record { sent = word ∷ sent; last = step (word 
 then step sent (End r k) = record { sent = sent; last = End r k }
 then step sent (Refused n) = record { sent = sent; last = Refused n }
 
+-- one step
 abbrev pub tickBy : (List ℕ → Round → Step) → History → History
 tickBy step h = then step (h .sent) (h .last)
 
+-- so many steps
 abbrev pub runBy : (List ℕ → Round → Step) → ℕ → History → History
 runBy step zero h = h
 runBy step (suc n) h = runBy step n (tickBy step h)
 
--- n steps of a round that was started with these parameter bits, on a line
+-- the round takes the line's answer
 abbrev pub onLine : Line → List ℕ → Round → Step
 onLine line words r = stepOf r (line words)
 
+-- "The start hands back the round and its first word"
 abbrev pub begun : ℕ → History
 begun params = record { sent = []; last = startOf params }
 
+-- so many steps of a round that was started with these parameter bits, on a line
 abbrev pub run : Line → ℕ → ℕ → History
 run line params n = runBy (onLine line) n (begun params)
 
 -- ---- events
--- a request has F_code 9, 13 or 14, a read F_code 12
+-- a request has F_code 9, 13 or 14
 abbrev pub isRequest : ℕ → Bool
 isRequest word = eqb (fCode word) 9 || eqb (fCode word) 13 || eqb (fCode word) 14
 
+-- a read has F_code 12
 abbrev pub isRead : ℕ → Bool
 isRead word = eqb (fCode word) 12
 
@@ -61,15 +66,17 @@ abbrev pub counted : (ℕ → Bool) → List ℕ → ℕ
 counted f [] = 0
 counted f (word ∷ words) = counted f words + cond (f word) 1 0
 
--- "unresolved": a request for one device (F_code 14) whose answer is neither silence nor a good reply
+-- neither silence nor a good reply
 abbrev pub isUnclear : Verdict → Bool
 isUnclear nobody = false
 isUnclear (named word) = false
 isUnclear unclear = true
 
+-- "unresolved": a request for one device (F_code 14) whose answer is neither silence nor a good reply
 abbrev pub isUnresolved : ℕ → LineAnswer → Bool
 isUnresolved word answer = eqb (fCode word) 14 && isUnclear (judge 0 (address word) answer)
 
+-- how many of the words, with what the line answered to each, are such
 abbrev pub unresolvedIn : Line → List ℕ → ℕ
 unresolvedIn line [] = 0
 unresolvedIn line (word ∷ words) = unresolvedIn line words + cond (isUnresolved word (line (word ∷ words))) 1 0

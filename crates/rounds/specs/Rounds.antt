@@ -20,16 +20,19 @@ use Rattle.rounds.specs.declared.Step.the-variants.{Next, End, Refused}
 abbrev pub countsOf : Round → Counts
 countsOf r = record { requests = r .requests; reads = r .reads; unresolved = r .unresolved }
 
+-- the round with this phase, place and counts
 abbrev pub round : Phase → ℕ → ℕ → Counts → Round
 round p m c k = record { phase = p; m = m; c = c; requests = k .requests; reads = k .reads; unresolved = k .unresolved }
 
--- one request, one read, "one unresolved device" more
+-- one request more
 abbrev pub oneRequest : Counts → Counts
 oneRequest k = record { requests = k .requests + 1; reads = k .reads; unresolved = k .unresolved }
 
+-- one read more
 abbrev pub oneRead : Counts → Counts
 oneRead k = record { requests = k .requests; reads = k .reads + 1; unresolved = k .unresolved }
 
+-- "one unresolved device" more
 abbrev pub oneUnresolved : Counts → Counts
 oneUnresolved k = record { requests = k .requests; reads = k .reads; unresolved = k .unresolved + 1 }
 
@@ -43,6 +46,7 @@ pub data Verdict : Type 0 where
 abbrev pub isGood : ℕ → ℕ → ℕ → Bool
 isGood m c word = eqb (fCode word) 12 && inGroup m c (address word)
 
+-- "silence, a reply with its word, or a collision"
 abbrev pub judge : ℕ → ℕ → LineAnswer → Verdict
 judge m c Silence = nobody
 judge m c (Reply word) = cond (isGood m c word) (named word) unclear
@@ -74,6 +78,7 @@ heard (named word) m c k = Next (round Read m c (oneRead k)) word
 heard unclear m c k = split m c k
 
 -- ---- 18
+-- there is a group to ask
 abbrev pub isAt : Place → Bool
 isAt over = false
 isAt (at m c) = true
@@ -93,11 +98,13 @@ abbrev pub impossible : ℕ → (ℕ → ℕ → Place) → Round → Bool
 impossible cap lead r = broken r || (ltb cap (r .requests) && owes (r .phase) (lead (r .m) (r .c)))
 
 -- ---- a step
+-- the round has ended
 abbrev pub ended : Phase → Bool
 ended Asked = false
 ended Read = false
 ended Ended = true
 
+-- the round waits for the answer to a read
 abbrev pub reading : Phase → Bool
 reading Asked = false
 reading Read = true
@@ -115,10 +122,11 @@ stepBy cap lead v r =
 abbrev pub stepOf : Round → LineAnswer → Step
 stepOf r answer = stepBy 8190 follows (judge (r .m) (r .c) answer) r
 
--- "The start hands back the round and its first word"; parameter bits of "4,096 or more: 6"
+-- nothing is counted at the start
 abbrev pub none : Counts
 none = record { requests = 0; reads = 0; unresolved = 0 }
 
+-- "The start hands back the round and its first word"; parameter bits of "4,096 or more: 6"
 unfoldable pub startOf : ℕ → Step
 startOf params = cond (ltb 4095 params) (Refused OutOfRange) (Next (round Asked 12 0 none) (requestWord params 12 0))
 

@@ -17,12 +17,15 @@ pub record Seen : Type 0 where
   pub sent : List ℕ
   pub counts : Counts
 
+-- a request was sent and its answer taken
 abbrev pub asked : ℕ → Seen → Seen
 asked word s = record { sent = word ∷ s .sent; counts = oneRequest (s .counts) }
 
+-- a read was sent
 abbrev pub read : ℕ → Seen → Seen
 read word s = record { sent = word ∷ s .sent; counts = oneRead (s .counts) }
 
+-- a device was left unresolved
 abbrev pub left : Seen → Seen
 left s = record { sent = s .sent; counts = oneUnresolved (s .counts) }
 
