@@ -11,7 +11,7 @@ use lib.Dec.{ltb, eqb}
 use lib.ListN.{length, length-append, set, length-set, drop}
 use lib.Pow.{pow-mono}
 use borrow.Author.Tests.{lt-ltb, le-ltb, eq-eqb, ne-eqb, ltb-true, ltb-false}
-use Rattle.refusals.specs.Told.{Told, gives, no}
+use Rattle.refusals.specs.Told.{Told, gives, refusal}
 use Rattle.frames.specs.declared.LineAnswer.{LineAnswer}
 use Rattle.frames.specs.declared.LineAnswer.the-variants.{Silence, Reply, Collision}
 use Rattle.frames.specs.Words.{wordOf}
@@ -179,7 +179,7 @@ module _ (bytes out : List ℕ) where
   abbrev Answers : Told → List ℕ → Type 0
   Answers told out₁ = (told ≡ searched bytes (length out)) × (out₁ ≡ written bytes out)
 
-  pub set-wrong : ((length bytes ≡ 512) → ⊥) → Answers (no 1) out
+  pub set-wrong : ((length bytes ≡ 512) → ⊥) → Answers (refusal 1) out
   unfolding searched written
   set-wrong f = (simp (ne-eqb _ _ f), simp (ne-eqb _ _ f))
 
@@ -195,7 +195,7 @@ module _ (bytes out : List ℕ) where
     pub all-there : k ≡ length (devices S₀ 12 0)
     all-there = counted ∙ sym (set-count S₀)
 
-    pub set-short : length out < k → Answers (no 4) out
+    pub set-short : length out < k → Answers (refusal 4) out
     unfolding searched written
     set-short l =
         let l₂ : length out < howMany S₀ 4096 = omega (arith, counted) in

@@ -6,7 +6,7 @@ use mathlib.Core.Bool.{Bool, cond}
 use mathlib.Core.List.{List, [], _∷_, _++_}
 use lib.Dec.{eqb, ltb}
 use lib.ListN.{length, getD, drop, set}
-use Rattle.refusals.specs.Told.{Told, gives, no}
+use Rattle.refusals.specs.Told.{Told, gives, refusal}
 use Rattle.frames.specs.declared.LineAnswer.{LineAnswer}
 use Rattle.frames.specs.declared.LineAnswer.the-variants.{Silence, Reply, Collision}
 use Rattle.frames.specs.Words.{wordOf}
@@ -25,7 +25,7 @@ module _ {ℓ} {A : Type ℓ} where
 
 -- "returns requests and reads"
 unfoldable pub searched : List ℕ → ℕ → Told
-searched bytes places = searchBy bytes places no (gives (searchOf (inSet bytes) 12 0 .requests ∷ length (searchOf (inSet bytes) 12 0 .order) ∷ []))
+searched bytes places = searchBy bytes places refusal (gives (searchOf (inSet bytes) 12 0 .requests ∷ length (searchOf (inSet bytes) 12 0 .order) ∷ []))
 
 -- "writes the read order into a lent output"; places beyond it stay as they are
 unfoldable pub written : List ℕ → List ℕ → List ℕ
