@@ -10,6 +10,7 @@ use borrow.Author.Tests.{le-ltb}
 use Rattle.refusals.specs.declared.Refusal.{Refusal}
 use Rattle.frames.specs.Words.{wordOf}
 use Rattle.groups.specs.Groups.{requestWord, after, follows}
+use Rattle.groups.specs.Sets.{Rising}
 use Rattle.groups.proofs.Follow.{Group}
 use Rattle.rounds.specs.declared.Phase.the-variants.{Asked, Read, Ended}
 use Rattle.rounds.specs.declared.Counts.{Counts}
@@ -18,10 +19,11 @@ use Rattle.rounds.specs.declared.Step.{Step}
 use Rattle.rounds.specs.declared.Step.the-variants.{Next, End, Refused}
 use Rattle.rounds.specs.Rounds.{none, round, judge, startOf}
 use Rattle.rounds.specs.Lines.{Line, History, tickBy, runBy, onLine, begun, run, isRequest, counted, Right, Ending}
+use Rattle.rounds.specs.Demand.{readOrder}
 use Rattle.rounds.specs.Walks.{Seen, Hearing, Walk, Reaches, here, asking, done}
 use Rattle.rounds.proofs.Heart.{reached, heart, sends}
 use Rattle.rounds.proofs.Copper.{walks, few}
-use Rattle.rounds.proofs.Events.{Known, known, right}
+use Rattle.rounds.proofs.Events.{Known, known, right, rises}
 use Rattle.rounds.proofs.Runs.{run-run, kept, arrived}
 
 -- what is heard on a line
@@ -102,3 +104,7 @@ module _ (line : Line) (p : ℕ) (h : p ≤ 4095) where
   -- at every step each of the three counts is the number of such events in the history since the start
   pub every-step : (n : ℕ) → Right line (run line p n .sent) (run line p n .last)
   every-step n = right line p h (run line p n .sent) (run line p n .last) (known line p h n) (accepted n)
+
+  -- and the devices read, as far as the round has come, rise in the order of their bits taken lowest first: none is read twice on any line
+  pub every-order : (n : ℕ) → Rising 0 (readOrder (run line p n .sent))
+  every-order n = rises line p h n (accepted n)

@@ -7,11 +7,11 @@ use Prim.Native.Nat.{ℕ, _+_, _*_, _/_, _≤_}
 use lib.Dec.{eqb}
 use lib.ListN.{length}
 use Rattle.refusals.specs.declared.Refusal.{Refusal}
-use Rattle.groups.specs.Sets.{devices, howMany}
+use Rattle.groups.specs.Sets.{devices, howMany, Rising}
 use Rattle.groups.specs.Search.{Found, searchOf}
 use Rattle.rounds.specs.declared.Step.the-variants.{Refused}
 use Rattle.rounds.specs.Lines.{Line, History, run, Right, Ending}
-use Rattle.rounds.specs.Demand.{Truthful, AllRead}
+use Rattle.rounds.specs.Demand.{Truthful, readOrder, AllRead}
 use Rattle.rounds.specs.Bytes.{ByteLine, MadeFrom, TruthfulBytes}
 use Rattle.rounds.proofs.Any as any
 use Rattle.rounds.proofs.Bytes.{bytes-truthful, trueBytes, bytes-exist}
@@ -29,6 +29,10 @@ counts-right p h line n = any.every-step line p h n
 pub accepted : (p : ℕ) → p ≤ 4095 → (line : Line) (n : ℕ) (j : Refusal) → run line p n .last ≡ Refused j → ⊥
 accepted p h line n j = any.accepted line p h n j
 
+-- on any line at all the reads rise in the order of their bits taken lowest first, so no device is read twice
+pub order-right : (p : ℕ) → p ≤ 4095 → (line : Line) (n : ℕ) → Rising 0 (readOrder (run line p n .sent))
+order-right p h line n = any.every-order line p h n
+
 -- "Then each of the k is read exactly once and no other device is, in the order document 01 fixes, after at most 1 + 24 x floor(k/2) requests"
 pub reads-all : (S : ℕ → Bool) (p : ℕ) → p ≤ 4095 → (line : Line) → Truthful S p line → (n : ℕ) → 12287 ≤ n → AllRead S (run line p n)
 reads-all S p h line t n l = subst (λ (x : History). AllRead S x) (sym (any.ended-here line p h n l)) (all-read S p h line t)
@@ -36,6 +40,10 @@ reads-all S p h line t n l = subst (λ (x : History). AllRead S x) (sym (any.end
 -- and there is such a line for each set
 pub some-line : (S : ℕ → Bool) (p : ℕ) → p ≤ 4095 → Truthful S p (true-line.trueLine S)
 some-line = true-line.exists
+
+-- as is the line whose devices clear their events when they are read
+pub clearing-line : (S : ℕ → Bool) (p : ℕ) → p ≤ 4095 → Truthful S p (true-line.clearingLine S)
+clearing-line = true-line.clearing
 
 -- the same over bytes: "silence for none, a collision for several, and for one the frame that names that device's own message"
 pub reads-all-bytes : (S : ℕ → Bool) (p : ℕ) → p ≤ 4095 → (bytes : ByteLine) (line : Line) → MadeFrom bytes line → TruthfulBytes S p bytes line →

@@ -1,8 +1,9 @@
--- At every step of a round each of its counts is the number of such events since its start.
+-- At every step of a round each of its counts is the number of such events since its start, and its reads rise in the order of their bits
+-- taken lowest first.
 -- Assumes nothing.
-use mathlib.Core.Path.{_≡_, refl, sym, ap, _∙_, subst}
+use mathlib.Core.Path.{_≡_, refl, sym, ap, ap₂, _∙_, subst}
 use mathlib.Core.Bool.{Bool, true, false, cond, _&&_, _||_}
-use mathlib.Core.List.{List, [], _∷_}
+use mathlib.Core.List.{List, [], _∷_, append-nil}
 use Prim.Native.Nat.{ℕ, zero, suc, _+_, _-_, _*_, _/_, _%_, _^_, _≤_, _<_}
 use native.Mathlib.Omega.{arith}
 use lib.Dec.{eqb, lit≤}
@@ -12,8 +13,10 @@ use Rattle.frames.specs.declared.LineAnswer.{LineAnswer}
 use Rattle.frames.specs.declared.LineAnswer.the-variants.{Silence, Reply, Collision}
 use Rattle.frames.specs.Words.{fCode, address, wordOf}
 use Rattle.groups.specs.Groups.{inGroup, groupWord, requestWord, Place, over, at, follows}
+use Rattle.groups.specs.Sets.{Rising}
 use Rattle.groups.proofs.Follow.{Group, in-lower, next-group}
-use Rattle.groups.proofs.Words.{group-code, single-code, single-address, general-code, request-part}
+use Rattle.groups.proofs.Words.{group-code, single-code, single-address, general-code, request-part, groupOf, named-by}
+use Rattle.groups.proofs.Order.{Between, low, longer, joined, rising, in-range, range-most, lower-low, next-low}
 use Rattle.rounds.specs.declared.Phase.{Phase}
 use Rattle.rounds.specs.declared.Phase.the-variants.{Asked, Read, Ended}
 use Rattle.rounds.specs.declared.Counts.{Counts}
@@ -21,6 +24,7 @@ use Rattle.rounds.specs.declared.Round.{Round}
 use Rattle.rounds.specs.declared.Step.{Step}
 use Rattle.rounds.specs.declared.Step.the-variants.{Next, End, Refused}
 use Rattle.rounds.specs.Rounds.{countsOf, round, none, oneRequest, oneRead, oneUnresolved, Verdict, nobody, named, unclear, isGood, judge, stand, split, heard, impossible, ended, stepBy, stepOf, startOf}
+use Rattle.rounds.specs.Demand.{readOrder}
 use Rattle.rounds.specs.Lines.{Line, History, tickBy, runBy, onLine, begun, run, isRequest, isRead, counted, isUnclear, isUnresolved, unresolvedIn, waiting, Counted, Right}
 
 -- ---- what a word is
@@ -60,77 +64,110 @@ asks p m c h t = go (eqb m 12) refl
         let f : m ≡ 12 → ⊥ = λ (z : m ≡ 12). let y : _≡_ {A = ℕ} 0 1 = cc (sym e ∙ eq-eqb m 12 z) in omega arith in
         asks-part m c (omega arith) (t .1)
 
--- a good reply has F_code 12
-pub named-code : (m c : ℕ) (a : LineAnswer) (x : ℕ) → judge m c a ≡ named x → fCode x ≡ 12
-named-code m c Silence x e = cc
-named-code m c (Reply w) x e = go (eqb (fCode w) 12) refl e
+-- a good reply has F_code 12 and an address in the group
+pub named-good : (m c : ℕ) (a : LineAnswer) (x : ℕ) → judge m c a ≡ named x → (fCode x ≡ 12) × (inGroup m c (address x) ≡ true)
+named-good m c Silence x e = absurd (let z : _≡_ {A = ℕ} 0 1 = cc in omega arith)
+named-good m c (Reply w) x e =
+    let t = tell (isGood m c w) refl e in
+    let g = both (eqb (fCode x) 12) (inGroup m c (address x)) (subst (λ (y : ℕ). isGood m c y ≡ true) (t .1) (t .0)) in
+    (eqb-true _ _ (g .0), g .1)
   where
-    tell : (b : Bool) → cond b (named w) unclear ≡ named x → (b ≡ true) × (w ≡ x)
-    tell true k = (refl, cc)
-    tell false k = (cc, cc)
+    tell : (b : Bool) → isGood m c w ≡ b → cond b (named w) unclear ≡ named x → (isGood m c w ≡ true) × (w ≡ x)
+    tell true g k = (g, cc)
+    tell false g k = absurd (let z : _≡_ {A = ℕ} 0 1 = cc in omega arith)
 
-    go : (b : Bool) → eqb (fCode w) 12 ≡ b → cond (b && inGroup m c (address w)) (named w) unclear ≡ named x → fCode x ≡ 12
-    go true h k = subst (λ (y : ℕ). fCode y ≡ 12) (tell (inGroup m c (address w)) k .1) (eqb-true _ _ h)
-    go false h k = cc
-named-code m c Collision x e = cc
+    both : (a b : Bool) → (a && b) ≡ true → (a ≡ true) × (b ≡ true)
+    both true b k = (refl, k)
+    both false b k = absurd (let z : _≡_ {A = ℕ} 0 1 = cc in omega arith)
+named-good m c Collision x e = absurd (let z : _≡_ {A = ℕ} 0 1 = cc in omega arith)
 
--- ---- the counts, with d reads handed out whose answers were not taken
-pub record Numbers (line : Line) (sent : List ℕ) (d : ℕ) (k : Counts) : Type 0 where
+-- ---- the counts, with d reads handed out whose answers were not taken; and the devices read so far lie before place b of the order
+pub record Numbers (line : Line) (sent : List ℕ) (d b : ℕ) (k : Counts) : Type 0 where
   pub requests : k .requests ≡ counted isRequest sent
   pub reads : k .reads ≡ counted isRead sent + d
   pub unresolved : k .unresolved ≡ unresolvedIn line sent
+  pub order : Between 0 b (readOrder sent)
+
+further : (line : Line) (sent : List ℕ) (d b b₂ : ℕ) (k : Counts) → b ≤ b₂ → Numbers line sent d b k → Numbers line sent d b₂ k
+further line sent d b b₂ k h n = record { requests = n .requests; reads = n .reads; unresolved = n .unresolved; order = longer 0 b b₂ (readOrder sent) h (n .order) }
 
 module _ (line : Line) (p : ℕ) (h : p ≤ 4095) where
   abbrev Waits : List ℕ → ℕ → ℕ → Counts → ℕ → Phase → Type 0
-  Waits sent m c k w Asked = Group m c × (w ≡ requestWord p m c) × Numbers line sent 0 k
-  Waits sent m c k w Read = Group m c × (fCode w ≡ 12) × Numbers line sent 1 k
+  Waits sent m c k w Asked = Group m c × (w ≡ requestWord p m c) × Numbers line sent 0 (low m c) k
+  Waits sent m c k w Read = Group m c × (fCode w ≡ 12) × (inGroup m c (address w) ≡ true) × Numbers line sent 1 (low m c) k
   Waits sent m c k w Ended = ⊥
 
   abbrev pub Known : List ℕ → Step → Type 0
   Known sent (Next r w) = Waits sent (r .m) (r .c) (countsOf r) w (r .phase)
-  Known sent (End r k) = (r .phase ≡ Ended) × (k ≡ countsOf r) × Numbers line sent 0 k
+  Known sent (End r k) = (r .phase ≡ Ended) × (k ≡ countsOf r) × Numbers line sent 0 4096 k
   Known sent (Refused n) = Unit {0}
 
-  known-stand : (sent : List ℕ) (k : Counts) (place : Place) → ((m c : ℕ) → place ≡ at m c → Group m c × (m ≤ 11)) → Numbers line sent 0 k → Known sent (stand place k)
-  known-stand sent k over f n = (refl, refl, n)
-  known-stand sent k (at m c) f n = let g = f m c refl in (g .0, sym (request-part p m c (g .1)), n)
-
-  known-on : (sent : List ℕ) (m c : ℕ) (k : Counts) → Group m c → Numbers line sent 0 k → Known sent (stand (follows m c) k)
-  known-on sent m c k g n = known-stand sent k (follows m c) (λ m₁ c₁ e. let x = next-group m c m₁ c₁ g e in let b = x .below in ((omega arith, x .group), b)) n
+  -- the group is done
+  known-on : (sent : List ℕ) (m c : ℕ) (k : Counts) → Group m c → Numbers line sent 0 (low m c + 2 ^ m) k → Known sent (stand (follows m c) k)
+  known-on sent m c k g n = go (follows m c) refl
+    where
+      go : (place : Place) → follows m c ≡ place → Known sent (stand place k)
+      go over e = (refl, refl, further line sent 0 (low m c + 2 ^ m) 4096 k (range-most m c (g .0)) n)
+      go (at m₁ c₁) e =
+          let x = next-group m c m₁ c₁ g e in
+          let b = x .below in
+          ((omega arith, x .group), sym (request-part p m₁ c₁ b), subst (λ (y : ℕ). Numbers line sent 0 y k) (sym (next-low m c m₁ c₁ g e)) n)
 
   -- the request was answered
-  module _ (sent : List ℕ) (m c w : ℕ) (k : Counts) (g : Group m c) (e : w ≡ requestWord p m c) (n : Numbers line sent 0 k) where
+  module _ (sent : List ℕ) (m c w : ℕ) (k : Counts) (g : Group m c) (e : w ≡ requestWord p m c) (n : Numbers line sent 0 (low m c) k) where
     word : Asks m c w
     word = subst (λ (x : ℕ). Asks m c x) (sym e) (asks p m c h g)
 
-    counted-one : lossAt m c (line (w ∷ sent)) ≡ false → Numbers line (w ∷ sent) 0 (oneRequest k)
+    same-order : Between 0 (low m c) (readOrder (w ∷ sent))
+    same-order = simp (word .no-read, append-nil) (n .order)
+
+    counted-one : lossAt m c (line (w ∷ sent)) ≡ false → Numbers line (w ∷ sent) 0 (low m c) (oneRequest k)
     counted-one l =
         record {
           requests = simp (word .request) (ap (λ (x : ℕ). x + 1) (n .requests));
           reads = simp (word .no-read) (omega (arith, n .reads));
           unresolved = simp (word .loss (line (w ∷ sent)), l) (omega (arith, n .unresolved));
+          order = same-order;
         }
 
-    counted-loss : lossAt m c (line (w ∷ sent)) ≡ true → Numbers line (w ∷ sent) 0 (oneUnresolved (oneRequest k))
+    counted-loss : lossAt m c (line (w ∷ sent)) ≡ true → Numbers line (w ∷ sent) 0 (low m c) (oneUnresolved (oneRequest k))
     counted-loss l =
         record {
           requests = simp (word .request) (ap (λ (x : ℕ). x + 1) (n .requests));
           reads = simp (word .no-read) (omega (arith, n .reads));
           unresolved = simp (word .loss (line (w ∷ sent)), l) (ap (λ (x : ℕ). x + 1) (n .unresolved));
+          order = same-order;
         }
 
-    with-read : Numbers line (w ∷ sent) 0 (oneRequest k) → Numbers line (w ∷ sent) 1 (oneRead (oneRequest k))
-    with-read y = let y₂ = y .reads in record { requests = y .requests; reads = omega arith; unresolved = y .unresolved }
+    -- silence, or a device that is left unresolved
+    passed : (j : Counts) → Numbers line (w ∷ sent) 0 (low m c) j → Known (w ∷ sent) (stand (follows m c) j)
+    passed j y = known-on (w ∷ sent) m c j g (further line (w ∷ sent) 0 (low m c) (low m c + 2 ^ m) j (omega arith) y)
 
-  known-heard : (sent : List ℕ) (m c w : ℕ) (k : Counts) → Group m c → w ≡ requestWord p m c → Numbers line sent 0 k → (v : Verdict) → judge m c (line (w ∷ sent)) ≡ v → Known (w ∷ sent) (heard v m c (oneRequest k))
-  known-heard sent zero c w k g e n nobody j = known-on (w ∷ sent) zero c (oneRequest k) g (counted-one sent zero c w k g e n (ap isUnclear j))
-  known-heard sent (suc m) c w k g e n nobody j = known-on (w ∷ sent) (suc m) c (oneRequest k) g (counted-one sent (suc m) c w k g e n refl)
-  known-heard sent zero c w k g e n (named x) j = (g, named-code zero c (line (w ∷ sent)) x j, with-read sent zero c w k g e n (counted-one sent zero c w k g e n (ap isUnclear j)))
-  known-heard sent (suc m) c w k g e n (named x) j = (g, named-code (suc m) c (line (w ∷ sent)) x j, with-read sent (suc m) c w k g e n (counted-one sent (suc m) c w k g e n refl))
-  known-heard sent zero c w k g e n unclear j = known-on (w ∷ sent) zero c (oneUnresolved (oneRequest k)) g (counted-loss sent zero c w k g e n (ap isUnclear j))
+    found : (x : ℕ) → judge m c (line (w ∷ sent)) ≡ named x → Numbers line (w ∷ sent) 0 (low m c) (oneRequest k) → Waits (w ∷ sent) m c (oneRead (oneRequest k)) x Read
+    found x j y =
+        let o = named-good m c (line (w ∷ sent)) x j in
+        let y₂ = y .reads in
+        (g, o .0, o .1, record { requests = y .requests; reads = omega arith; unresolved = y .unresolved; order = y .order })
+
+  known-heard : (sent : List ℕ) (m c w : ℕ) (k : Counts) → Group m c → w ≡ requestWord p m c → Numbers line sent 0 (low m c) k → (v : Verdict) → judge m c (line (w ∷ sent)) ≡ v → Known (w ∷ sent) (heard v m c (oneRequest k))
+  known-heard sent zero c w k g e n nobody j = passed sent zero c w k g e n (oneRequest k) (counted-one sent zero c w k g e n (ap isUnclear j))
+  known-heard sent (suc m) c w k g e n nobody j = passed sent (suc m) c w k g e n (oneRequest k) (counted-one sent (suc m) c w k g e n refl)
+  known-heard sent zero c w k g e n (named x) j = found sent zero c w k g e n x j (counted-one sent zero c w k g e n (ap isUnclear j))
+  known-heard sent (suc m) c w k g e n (named x) j = found sent (suc m) c w k g e n x j (counted-one sent (suc m) c w k g e n refl)
+  known-heard sent zero c w k g e n unclear j = passed sent zero c w k g e n (oneUnresolved (oneRequest k)) (counted-loss sent zero c w k g e n (ap isUnclear j))
   known-heard sent (suc m) c w k g e n unclear j =
       let l = g .0 in
-      (in-lower m c g, sym (request-part p m c (omega arith)), counted-one sent (suc m) c w k g e n refl)
+      let y = counted-one sent (suc m) c w k g e n refl in
+      (in-lower m c g, sym (request-part p m c (omega arith)), subst (λ (b : ℕ). Numbers line (w ∷ sent) 0 b (oneRequest k)) (sym (lower-low m c g)) y)
+
+  -- the read was answered
+  read-order : (sent : List ℕ) (m c w : ℕ) → Group m c → fCode w ≡ 12 → inGroup m c (address w) ≡ true → Between 0 (low m c) (readOrder sent) →
+      Between 0 (low m c + 2 ^ m) (readOrder (w ∷ sent))
+  read-order sent m c w g e i o =
+      let a = address w in
+      let r = in-range (λ x. true) m c a g (record { small = omega arith; event = refl; group = i }) in
+      let r₁ = r .1 in
+      rw e (joined 0 (low m c) (low m c + 2 ^ m) (readOrder sent) (a ∷ []) o (r .0, omega arith))
 
   known-refused : (sent : List ℕ) (b : Bool) (s : Step) → Known sent s → Known sent (cond b (Refused ImpossibleRound) s)
   known-refused sent true s k = tt
@@ -141,9 +178,10 @@ module _ (line : Line) (p : ℕ) (h : p ≤ 4095) where
   known-step sent Asked m c w k x = known-refused (w ∷ sent) (impossible 8190 follows (round Asked m c k)) _ (known-heard sent m c w k (x .0) (x .1) (x .2) (judge m c (line (w ∷ sent))) refl)
   known-step sent Read m c w k x =
       let e = x .1 in
-      let n = x .2 in
+      let n = x .3 in
+      let o = read-order sent m c w (x .0) e (x .2) (n .order) in
       known-refused (w ∷ sent) (impossible 8190 follows (round Read m c k)) _ (known-on (w ∷ sent) m c k (x .0)
-      (record { requests = rw e (omega (arith, n .requests)); reads = rw e (omega (arith, n .reads)); unresolved = rw e (omega (arith, n .unresolved)) }))
+      (record { requests = rw e (omega (arith, n .requests)); reads = rw e (omega (arith, n .reads)); unresolved = rw e (omega (arith, n .unresolved)); order = o }))
   known-step sent Ended m c w k x = absurd x
 
   known-tick : (x : History) → Known (x .sent) (x .last) → Known (tickBy (onLine line) x .sent) (tickBy (onLine line) x .last)
@@ -160,7 +198,7 @@ module _ (line : Line) (p : ℕ) (h : p ≤ 4095) where
 
   known-start : Known [] (startOf p)
   unfolding startOf
-  known-start = simp (le-ltb 4095 p h) ((lit≤ tt, lit≤ tt), refl, record { requests = refl; reads = refl; unresolved = refl })
+  known-start = simp (le-ltb 4095 p h) ((lit≤ tt, lit≤ tt), refl, record { requests = refl; reads = refl; unresolved = refl; order = omega arith })
 
   pub known : (n : ℕ) → Known (run line p n .sent) (run line p n .last)
   known n = known-run n (begun p) known-start
@@ -180,7 +218,7 @@ module _ (line : Line) (p : ℕ) (h : p ≤ 4095) where
       )
   right-waits sent Read m c w k x =
       let e = x .1 in
-      let n = x .2 in (
+      let n = x .3 in (
         refl,
         record {
           requests = n .requests;
@@ -194,7 +232,7 @@ module _ (line : Line) (p : ℕ) (h : p ≤ 4095) where
   pub right : (sent : List ℕ) (s : Step) → Known sent s → ((n : _) → s ≡ Refused n → ⊥) → Right line sent s
   right sent (Next r w) k f = right-waits sent (r .phase) (r .m) (r .c) w (countsOf r) k
   right sent (End r j) k f =
-      let n : Numbers line sent 0 (countsOf r) = subst (λ (y : Counts). Numbers line sent 0 y) (k .1) (k .2) in
+      let n : Numbers line sent 0 4096 (countsOf r) = subst (λ (y : Counts). Numbers line sent 0 4096 y) (k .1) (k .2) in
       let n₁ = n .requests in
       let n₂ = n .reads in (
         ap ended (k .0),
@@ -207,3 +245,30 @@ module _ (line : Line) (p : ℕ) (h : p ≤ 4095) where
         },
       )
   right sent (Refused n) k f = absurd (f n refl)
+
+  -- ---- the order of the reads
+  rises-in : (sent : List ℕ) (s : Step) → Known sent s → ((n : _) → s ≡ Refused n → ⊥) → Rising 0 (readOrder sent)
+  rises-in sent (Next r w) k f = go (r .phase) k
+    where
+      go : (ph : Phase) → Waits sent (r .m) (r .c) (countsOf r) w ph → Rising 0 (readOrder sent)
+      go Asked x = rising 0 (low (r .m) (r .c)) (readOrder sent) (x .2 .order)
+      go Read x = rising 0 (low (r .m) (r .c)) (readOrder sent) (x .3 .order)
+      go Ended x = absurd x
+  rises-in sent (End r j) k f = rising 0 4096 (readOrder sent) (k .2 .order)
+  rises-in sent (Refused n) k f = absurd (f n refl)
+
+  pub rises : (n : ℕ) → ((j : _) → run line p n .last ≡ Refused j → ⊥) → Rising 0 (readOrder (run line p n .sent))
+  rises n f = rises-in (run line p n .sent) (run line p n .last) (known n) f
+
+  -- where the request for {M, C} is handed out, the devices read so far lie before its range
+  pub before-range : (n m c : ℕ) (r : Round) → Group m c → run line p n .last ≡ Next r (requestWord p m c) → Between 0 (low m c) (readOrder (run line p n .sent))
+  before-range n m c r g e = go (r .phase) (subst (λ (s : Step). Known (run line p n .sent) s) e (known n))
+    where
+      go : (ph : Phase) → Waits (run line p n .sent) (r .m) (r .c) (countsOf r) (requestWord p m c) ph → Between 0 (low m c) (readOrder (run line p n .sent))
+      go Asked x =
+          let q : at m c ≡ at (r .m) (r .c) = sym (named-by p m c h g) ∙ ap groupOf (x .1) ∙ named-by p (r .m) (r .c) h (x .0) in
+          let q₁ : r .m ≡ m = cc in
+          let q₂ : r .c ≡ c = cc in
+          subst (λ (y : ℕ). Between 0 y (readOrder (run line p n .sent))) (ap₂ low q₁ q₂) (x .2 .order)
+      go Read x = absurd (let y : _≡_ {A = ℕ} 0 1 = cc (sym (asks p m c h g .no-read) ∙ eq-eqb _ _ (x .1)) in omega arith)
+      go Ended x = absurd x
