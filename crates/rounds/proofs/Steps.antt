@@ -24,7 +24,8 @@ use Rattle.rounds.specs.declared.Counts.{Counts}
 use Rattle.rounds.specs.declared.Round.{Round}
 use Rattle.rounds.specs.declared.Step.{Step}
 use Rattle.rounds.specs.declared.Step.the-variants.{Next, End, Refused}
-use Rattle.rounds.specs.Rounds.{countsOf, round, oneRequest, oneRead, oneUnresolved, Verdict, nobody, named, unclear, isGood, judge, ask, stand, goOn, split, heard, isAt, owes, broken, impossible, ended, reading, stepBy, stepOf, Sound, goodAnswer, resumed}
+use Rattle.rounds.specs.Rounds.{countsOf, round, oneRequest, oneRead, oneUnresolved, Verdict, nobody, named, unclear, isGood, judge, ask, stand, goOn, split, heard, isAt, owes, broken, impossible, ended, reading, stepBy, stepOf}
+use Rattle.rounds.specs.Inside.{Sound, goodAnswer, resumed}
 
 -- ---- next: up the groups, until one is a lower half
 module _ (m c half m₀ c₀ : ℕ) (k : Counts) (h : m < 12) (p : half ≡ 2 ^ (12 - (m + 1))) (i : follows m c ≡ follows m₀ c₀) where

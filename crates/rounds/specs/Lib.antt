@@ -1,4 +1,5 @@
 pub mod Rounds
+pub mod Inside
 pub mod Told
 pub mod Lines
 pub mod Walks

@@ -1,7 +1,6 @@
 -- The event round of document 01: what a start and a step hand back.
 -- Assumes nothing.
-use Prim.Native.Nat.{ℕ, zero, suc, _+_, _≤_}
-use mathlib.Core.Path.{_≡_}
+use Prim.Native.Nat.{ℕ, zero, suc, _+_}
 use mathlib.Core.Bool.{Bool, true, false, cond, not, _&&_, _||_}
 use lib.Dec.{ltb, eqb}
 use Rattle.refusals.specs.declared.Refusal.the-variants.{OutOfRange, ImpossibleRound}
@@ -129,19 +128,3 @@ none = record { requests = 0; reads = 0; unresolved = 0 }
 -- "The start hands back the round and its first word"; parameter bits of "4,096 or more: 6"
 unfoldable pub startOf : ℕ → Step
 startOf params = cond (ltb 4095 params) (Refused OutOfRange) (Next (round Asked 12 0 none) (requestWord params 12 0))
-
--- a round that waits for the answer to a request, and is not refused
-pub record Sound (r : Round) : Type 0 where
-  pub group : isGroup (r .m) (r .c) ≡ true
-  pub events : r .reads + r .unresolved ≤ r .requests
-  pub room : r .requests ≤ 8190
-
--- whether the line's answer is a good reply
-abbrev pub goodAnswer : ℕ → ℕ → LineAnswer → Bool
-goodAnswer m c Silence = false
-goodAnswer m c (Reply word) = isGood m c word
-goodAnswer m c Collision = false
-
--- the answer to a read: on, unless a request is still to be asked and too many have been
-abbrev pub resumed : ℕ → ℕ → Counts → Step
-resumed m c k = cond (ltb 8190 (k .requests) && isAt (follows m c)) (Refused ImpossibleRound) (goOn m c k)

@@ -7,7 +7,8 @@ ghost use mathlib.Core.Path.{_≡_};
 ghost use mathlib.Core.Bool.{true};
 ghost use Prim.Native.Nat.{_+_, _≤_};
 ghost use Rattle.groups.specs.Groups.{isGroup, over};
-ghost use Rattle.rounds.specs.Rounds.{Sound, countsOf, ask as askOf, stand, goOn, split as splitOf, heard, judge, broken as brokenOf, oneRequest, oneRead, round, goodAnswer, resumed, stepOf, startOf};
+ghost use Rattle.rounds.specs.Rounds.{countsOf, ask as askOf, stand, goOn, split as splitOf, heard, judge, broken as brokenOf, oneRequest, oneRead, round, stepOf, startOf};
+ghost use Rattle.rounds.specs.Inside.{Sound, goodAnswer, resumed};
 ghost use Rattle.rounds.specs.Told.{told};
 
 // What the round waits for: the answer to a request, the answer to a read, or nothing any more.

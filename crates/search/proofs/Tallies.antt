@@ -12,7 +12,7 @@ use Rattle.groups.specs.Sets.{Member, devices}
 use Rattle.groups.proofs.Follow.{Group}
 use Rattle.groups.proofs.Powers.{at-most}
 use Rattle.groups.proofs.Counting.{along, device-count}
-use Rattle.search.specs.Searches.{Tally}
+use Rattle.search.specs.Inside.{Tally}
 
 one-more : (n s : ℕ) → suc n * s ≡ n * s + s
 one-more n s = omega arith

@@ -22,7 +22,8 @@ use Rattle.groups.proofs.Follow.{Group, is-group, group-is, in-lower, in-upper}
 use Rattle.groups.proofs.Members.{member, listed}
 use Rattle.groups.proofs.Counting.{set-count}
 use Rattle.groups.proofs.Costs.{finds, devices-few, requests-few, once, collided, halved}
-use Rattle.search.specs.Searches.{inSet, searchBy, searched, written, answerTo, Tally, placed}
+use Rattle.search.specs.Searches.{inSet, searchBy, searched, written}
+use Rattle.search.specs.Inside.{answerTo, Tally, placed}
 
 -- ---- what a group answers
 module _ (S : ℕ → Bool) (m c count last : ℕ) (g : Group m c) (t : Tally S m c 2 count last) where

@@ -8,7 +8,8 @@ ghost use lib.ListN.{length};
 ghost use Rattle.groups.specs.Groups.{isGroup};
 ghost use Rattle.groups.specs.Sets.{devices as devicesOf};
 ghost use Rattle.groups.specs.Search.{searchOf};
-ghost use Rattle.search.specs.Searches.{inSet, searched, written, answerTo, Tally as Tallied, placed};
+ghost use Rattle.search.specs.Searches.{inSet, searched, written};
+ghost use Rattle.search.specs.Inside.{answerTo, Tally as Tallied, placed};
 ghost use Rattle.search.specs.Told.{told};
 
 // Requests and reads; or a refusal.
