@@ -1,13 +1,13 @@
 -- The halves of a group, and what follows a group: from the lower half to the upper, from there to what follows both.
 -- Assumes nothing.
-use mathlib.Core.Path.{_≡_, refl, sym, ap, _∙_, subst}
+use mathlib.Core.Path.{_≡_, refl, _∙_, subst}
 use mathlib.Core.Bool.{Bool, true, false, cond, _&&_}
-use Prim.Native.Nat.{ℕ, zero, suc, _+_, _-_, _*_, _^_, _≤_, _<_}
+use Prim.Native.Nat.{ℕ, zero, suc, _+_, _-_, _^_, _≤_, _<_}
 use native.Mathlib.Omega.{arith}
 use native.Mathlib.Nat.{lt-of-lt-of-le}
 use lib.Dec.{ltb, leb}
 use borrow.Author.Tests.{lt-ltb, le-ltb, le-leb, leb-true, ltb-true, ltb-false}
-use Rattle.groups.specs.Groups.{isGroup, Place, over, at, after, follows}
+use Rattle.groups.specs.Groups.{isGroup, over, at, after, follows}
 use Rattle.groups.proofs.Powers.{at-most, one-less, twice, doubled}
 
 -- {M, C} is a group

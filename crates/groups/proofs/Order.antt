@@ -11,7 +11,7 @@ use native.Mathlib.Nat.{mul-le-mul-right, suc-mul}
 use lib.Dec.{ltb}
 use lib.Pow.{pow-add}
 use borrow.Author.Tests.{ltb-true, ltb-false}
-use Rattle.groups.specs.Groups.{Place, at, after, follows}
+use Rattle.groups.specs.Groups.{at, after, follows}
 use Rattle.groups.specs.Sets.{Member, devices, reversed, Rising}
 use Rattle.groups.proofs.Powers.{doubled}
 use Rattle.groups.proofs.Follow.{Group, depth, in-lower, in-upper}

@@ -1,10 +1,9 @@
 -- Powers of two, as groups have them.
 -- Assumes nothing.
-use mathlib.Core.Path.{_≡_, refl, sym, ap, _∙_, subst}
-use Prim.Native.Nat.{ℕ, zero, suc, _+_, _-_, _*_, _/_, _^_, _≤_, _<_}
+use mathlib.Core.Path.{_≡_, ap, _∙_, subst}
+use Prim.Native.Nat.{ℕ, suc, _+_, _-_, _/_, _^_, _≤_, _<_}
 use native.Mathlib.Omega.{arith}
-use native.Mathlib.Nat.{lt-of-lt-of-le}
-use lib.Pow.{pow-mono, pow-pos, pow-add, shl-shr}
+use lib.Pow.{pow-mono, pow-add, shl-shr}
 
 pub at-most : (k : ℕ) → k ≤ 12 → 2 ^ k ≤ 4096
 at-most k h = pow-mono {j = 12} h

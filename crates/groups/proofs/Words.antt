@@ -1,17 +1,17 @@
 -- The request words: their F_codes, and that each names its group.
 -- Assumes nothing.
-use mathlib.Core.Path.{_≡_, refl, sym, ap, _∙_, subst}
+use mathlib.Core.Path.{_≡_, refl, ap, _∙_, subst}
 use mathlib.Core.Bool.{Bool, true, false, cond}
-use Prim.Native.Nat.{ℕ, zero, suc, _+_, _-_, _*_, _/_, _%_, _^_, _≤_, _<_}
+use Prim.Native.Nat.{ℕ, zero, suc, _+_, _-_, _*_, _^_, _≤_, _<_}
 use native.Mathlib.Omega.{arith}
 use native.Mathlib.Nat.{zero-add, suc-add}
 use lib.Dec.{eqb, ltb}
 use lib.Pow.{pow-add, pow-pos, pow-mono, high-ones}
-use borrow.Author.Tests.{lt-ltb, le-ltb, eq-eqb, ne-eqb, eqb-true, eqb-false}
+use borrow.Author.Tests.{lt-ltb, le-ltb, ne-eqb, eqb-true, eqb-false}
 use Rattle.frames.specs.Words.{fCode, address, wordOf}
 use Rattle.groups.specs.Groups.{groupWord, requestWord, Place, over, at}
 use Rattle.groups.proofs.Powers.{at-most}
-use Rattle.groups.proofs.Follow.{Group, c-small}
+use Rattle.groups.proofs.Follow.{Group}
 
 -- m ones over 12 - m places
 ones : (m : ℕ) → m ≤ 12 → 4096 - 2 ^ (12 - m) ≡ (2 ^ m - 1) * 2 ^ (12 - m)

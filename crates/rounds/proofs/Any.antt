@@ -1,26 +1,22 @@
 -- On any line at all a round ends, within 8,191 requests and 4,096 reads; it is never refused; and at every step its counts are right.
 -- Assumes nothing.
 use mathlib.Core.Path.{_≡_, refl, sym, ap, _∙_, subst}
-use mathlib.Core.List.{List, [], _∷_}
-use Prim.Native.Nat.{ℕ, zero, suc, _+_, _-_, _*_, _/_, _%_, _^_, _≤_, _<_}
+use mathlib.Core.List.{[]}
+use Prim.Native.Nat.{ℕ, _≤_}
 use native.Mathlib.Omega.{arith}
 use lib.Dec.{lit≤}
-use lib.ListN.{length}
 use borrow.Author.Tests.{le-ltb}
 use Rattle.refusals.specs.declared.Refusal.{Refusal}
-use Rattle.frames.specs.Words.{wordOf}
 use Rattle.groups.specs.Groups.{requestWord, after, follows}
 use Rattle.groups.specs.Sets.{Rising}
 use Rattle.groups.proofs.Follow.{Group}
-use Rattle.rounds.specs.declared.Phase.the-variants.{Asked, Read, Ended}
-use Rattle.rounds.specs.declared.Counts.{Counts}
-use Rattle.rounds.specs.declared.Round.{Round}
+use Rattle.rounds.specs.declared.Phase.the-variants.{Ended}
 use Rattle.rounds.specs.declared.Step.{Step}
-use Rattle.rounds.specs.declared.Step.the-variants.{Next, End, Refused}
+use Rattle.rounds.specs.declared.Step.the-variants.{End, Refused}
 use Rattle.rounds.specs.Rounds.{none, round, judge, startOf}
-use Rattle.rounds.specs.Lines.{Line, History, tickBy, runBy, onLine, begun, run, isRequest, counted, Right, Ending}
+use Rattle.rounds.specs.Lines.{Line, History, tickBy, runBy, onLine, begun, run, Right, Ending}
 use Rattle.rounds.specs.Demand.{readOrder}
-use Rattle.rounds.specs.Walks.{Seen, Hearing, Walk, Reaches, here, asking, done}
+use Rattle.rounds.specs.Walks.{Seen, Hearing, Walk, Reaches, asking}
 use Rattle.rounds.proofs.Heart.{reached, heart, sends}
 use Rattle.rounds.proofs.Copper.{walks, few}
 use Rattle.rounds.proofs.Events.{Known, known, right, rises}

@@ -1,10 +1,8 @@
 -- What is told tells steps apart.
 -- Assumes nothing.
 use mathlib.Core.Path.{_≡_, refl, sym, ap, ap₂}
-use mathlib.Core.List.{List, [], _∷_, _++_}
 use Prim.Native.Nat.{ℕ}
 use native.Mathlib.Omega.{arith}
-use Rattle.refusals.specs.Told.{gives}
 use Rattle.refusals.proofs.Apart.{refusals-apart, gives-apart, never-both}
 use Rattle.rounds.specs.declared.Phase.{Phase}
 use Rattle.rounds.specs.declared.Phase.the-variants.{Asked, Read, Ended}

@@ -4,10 +4,10 @@
 use mathlib.Core.Path.{_≡_, refl, sym, ap, ap₂, _∙_, subst}
 use mathlib.Core.Bool.{Bool, true, false, cond, _&&_, _||_}
 use mathlib.Core.List.{List, [], _∷_, append-nil}
-use Prim.Native.Nat.{ℕ, zero, suc, _+_, _-_, _*_, _/_, _%_, _^_, _≤_, _<_}
+use Prim.Native.Nat.{ℕ, zero, suc, _+_, _-_, _^_, _≤_, _<_}
 use native.Mathlib.Omega.{arith}
 use lib.Dec.{eqb, lit≤}
-use borrow.Author.Tests.{le-ltb, eq-eqb, ne-eqb, eqb-true}
+use borrow.Author.Tests.{le-ltb, eq-eqb, eqb-true}
 use Rattle.refusals.specs.declared.Refusal.the-variants.{ImpossibleRound}
 use Rattle.frames.specs.declared.LineAnswer.{LineAnswer}
 use Rattle.frames.specs.declared.LineAnswer.the-variants.{Silence, Reply, Collision}
@@ -23,9 +23,9 @@ use Rattle.rounds.specs.declared.Counts.{Counts}
 use Rattle.rounds.specs.declared.Round.{Round}
 use Rattle.rounds.specs.declared.Step.{Step}
 use Rattle.rounds.specs.declared.Step.the-variants.{Next, End, Refused}
-use Rattle.rounds.specs.Rounds.{countsOf, round, none, oneRequest, oneRead, oneUnresolved, Verdict, nobody, named, unclear, isGood, judge, stand, split, heard, impossible, ended, stepBy, stepOf, startOf}
+use Rattle.rounds.specs.Rounds.{countsOf, round, oneRequest, oneRead, oneUnresolved, Verdict, nobody, named, unclear, isGood, judge, stand, heard, impossible, ended, stepBy, stepOf, startOf}
 use Rattle.rounds.specs.Demand.{readOrder}
-use Rattle.rounds.specs.Lines.{Line, History, tickBy, runBy, onLine, begun, run, isRequest, isRead, counted, isUnclear, isUnresolved, unresolvedIn, waiting, Counted, Right}
+use Rattle.rounds.specs.Lines.{Line, History, tickBy, runBy, onLine, begun, run, isRequest, isRead, counted, isUnclear, isUnresolved, unresolvedIn, Right}
 
 -- ---- what a word is
 abbrev lossAt : ℕ → ℕ → LineAnswer → Bool

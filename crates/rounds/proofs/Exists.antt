@@ -1,7 +1,7 @@
 -- For every set there is a truthful line, so what is said of truthful lines is said of something; and a line whose devices clear their
 -- events when they are read is truthful too.
 -- Assumes nothing.
-use mathlib.Core.Path.{_≡_, refl, sym, ap, _∙_, subst}
+use mathlib.Core.Path.{_≡_, refl, sym, subst}
 use mathlib.Core.Bool.{Bool, true, false, not, _&&_, _||_}
 use mathlib.Core.List.{List, [], _∷_, List·Memᴰ, List·Memᴰ·eq-of-singleton, List·Memᴰ·not-nil}
 use mathlib.Core.List.List·Memᴰ.{List·Memᴰ·head, List·Memᴰ·tail}
@@ -12,7 +12,7 @@ use borrow.Author.Tests.{eqb-true}
 use Rattle.frames.specs.declared.LineAnswer.{LineAnswer}
 use Rattle.frames.specs.declared.LineAnswer.the-variants.{Silence, Reply, Collision}
 use Rattle.frames.specs.Words.{wordOf}
-use Rattle.groups.specs.Groups.{requestWord, Place, over, at}
+use Rattle.groups.specs.Groups.{Place, over, at}
 use Rattle.groups.specs.Sets.{Member, devices, Rising}
 use Rattle.groups.proofs.Follow.{Group, group-is}
 use Rattle.groups.proofs.Words.{groupOf, named-by}

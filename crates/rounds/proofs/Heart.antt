@@ -2,25 +2,25 @@
 -- "ask, and on a collision ask both halves" does, and then stand at what follows {M, C}.
 -- Assumes nothing.
 use mathlib.Core.Path.{_≡_, refl, sym, ap, _∙_, subst}
-use mathlib.Core.Bool.{Bool, true, false, cond, not, _&&_, _||_}
-use mathlib.Core.List.{List, [], _∷_}
-use Prim.Native.Nat.{ℕ, zero, suc, _+_, _-_, _*_, _^_, _≤_, _<_}
+use mathlib.Core.Bool.{Bool, true, false, cond, _&&_}
+use mathlib.Core.List.{List, _∷_}
+use Prim.Native.Nat.{ℕ, zero, suc, _+_, _-_, _^_, _≤_, _<_}
 use native.Mathlib.Omega.{arith}
 use lib.Dec.{ltb}
 use lib.ListN.{length}
 use borrow.Author.Tests.{le-ltb}
 use Rattle.refusals.specs.declared.Refusal.the-variants.{ImpossibleRound}
-use Rattle.groups.specs.Groups.{isGroup, groupWord, Place, over, at, follows}
+use Rattle.groups.specs.Groups.{groupWord, Place, over, at, follows}
 use Rattle.groups.proofs.Follow.{Group, is-group, in-lower, in-upper, lower, upper}
 use Rattle.rounds.specs.declared.Phase.{Phase}
-use Rattle.rounds.specs.declared.Phase.the-variants.{Asked, Read, Ended}
+use Rattle.rounds.specs.declared.Phase.the-variants.{Asked, Read}
 use Rattle.rounds.specs.declared.Counts.{Counts}
 use Rattle.rounds.specs.declared.Round.{Round}
 use Rattle.rounds.specs.declared.Step.{Step}
-use Rattle.rounds.specs.declared.Step.the-variants.{Next, End, Refused}
-use Rattle.rounds.specs.Rounds.{countsOf, round, oneRequest, oneRead, Verdict, nobody, named, unclear, stand, goOn, heard, isAt, broken, impossible, stepBy}
+use Rattle.rounds.specs.declared.Step.the-variants.{Refused}
+use Rattle.rounds.specs.Rounds.{round, oneRequest, oneRead, Verdict, nobody, named, unclear, stand, heard, isAt, broken, stepBy}
 use Rattle.rounds.specs.Lines.{History, tickBy, runBy}
-use Rattle.rounds.specs.Walks.{Seen, asked, read, left, Hearing, Walk, silence, reply, again, halves, single, hearing, Reaches, here, on, asking, done, Room}
+use Rattle.rounds.specs.Walks.{Seen, asked, read, Hearing, Walk, silence, reply, again, halves, single, hearing, Reaches, here, on, asking, done, Room}
 
 -- ---- steps, one after the other
 pub beyond : {step : List ℕ → Round → Step} {h k l : History} → Reaches step h k → Reaches step k l → Reaches step h l

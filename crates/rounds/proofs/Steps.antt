@@ -1,22 +1,22 @@
 -- What each way through a step's code returns is what the definition says.
 -- Assumes nothing.
-use mathlib.Core.Path.{_≡_, refl, sym, ap, _∙_, subst}
+use mathlib.Core.Path.{_≡_, refl, sym, ap, _∙_}
 use mathlib.Core.Bool.{Bool, true, false, cond, not, _&&_, _||_}
 use mathlib.Core.List.{[], _∷_}
-use mathlib.Core.Logic.{_⊎_, ⊎-elim}
-use Prim.Native.Nat.{ℕ, zero, suc, _+_, _-_, _*_, _^_, _≤_, _<_}
+use mathlib.Core.Logic.{⊎-elim}
+use Prim.Native.Nat.{ℕ, zero, suc, _+_, _-_, _^_, _≤_, _<_}
 use native.Mathlib.Omega.{arith}
-use lib.Dec.{ltb, leb, eqb}
+use lib.Dec.{ltb, eqb}
 use borrow.Author.Tests.{lt-ltb, le-ltb, eq-eqb, ne-eqb, ltb-false, not-false}
 use types.Run.{OneOf}
 use denote.Enum.Declared.{tagOf}
-use Rattle.refusals.specs.declared.Refusal.the-variants.{OutOfRange, ImpossibleRound}
+use Rattle.refusals.specs.declared.Refusal.the-variants.{ImpossibleRound}
 use Rattle.frames.specs.declared.LineAnswer.{LineAnswer}
 use Rattle.frames.specs.declared.LineAnswer.the-variants.{Silence, Reply, Collision}
 use Rattle.frames.specs.Words.{fCode, address}
 use Rattle.frames.proofs.LineAnswer.{the-type as answer-type}
-use Rattle.groups.specs.Groups.{isGroup, inGroup, groupWord, Place, over, at, follows}
-use Rattle.groups.proofs.Follow.{Group, group-is, is-group, after-low, after-high, after-all}
+use Rattle.groups.specs.Groups.{isGroup, inGroup, Place, over, at, follows}
+use Rattle.groups.proofs.Follow.{is-group, after-low, after-high, after-all}
 use Rattle.groups.proofs.Powers.{twice}
 use Rattle.rounds.specs.declared.Phase.{Phase}
 use Rattle.rounds.specs.declared.Phase.the-variants.{Asked, Read, Ended}
@@ -24,7 +24,7 @@ use Rattle.rounds.specs.declared.Counts.{Counts}
 use Rattle.rounds.specs.declared.Round.{Round}
 use Rattle.rounds.specs.declared.Step.{Step}
 use Rattle.rounds.specs.declared.Step.the-variants.{Next, End, Refused}
-use Rattle.rounds.specs.Rounds.{countsOf, round, oneRequest, oneRead, oneUnresolved, Verdict, nobody, named, unclear, isGood, judge, ask, stand, goOn, split, heard, isAt, owes, broken, impossible, ended, reading, stepBy, stepOf}
+use Rattle.rounds.specs.Rounds.{countsOf, round, oneRequest, oneRead, oneUnresolved, isGood, judge, ask, stand, goOn, split, heard, isAt, broken, ended, stepBy, stepOf}
 use Rattle.rounds.specs.Inside.{Sound, goodAnswer, resumed}
 
 -- ---- next: up the groups, until one is a lower half

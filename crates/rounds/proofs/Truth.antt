@@ -1,20 +1,20 @@
 -- On a truthful line a round reads just the devices of the set, in the order and after as many requests as the search.
 -- Assumes nothing.
-use mathlib.Core.Path.{_≡_, refl, sym, ap, ap₂, _∙_, subst}
-use mathlib.Core.Bool.{Bool, true, false, cond}
+use mathlib.Core.Path.{_≡_, refl, sym, ap, _∙_, subst}
+use mathlib.Core.Bool.{Bool, true, false}
 use mathlib.Core.List.{List, [], _∷_, _++_, List·Memᴰ, append-nil, append-assoc, List·Memᴰ·eq-of-singleton, List·Memᴰ·not-nil}
 use mathlib.Core.List.List·Memᴰ.{List·Memᴰ·head, List·Memᴰ·tail}
 use Prim.Native.Nat.{ℕ, zero, suc, _+_, _-_, _*_, _/_, _%_, _^_, _≤_, _<_}
 use native.Mathlib.Omega.{arith}
 use native.Mathlib.Nat.{zero-add}
-use lib.Dec.{eqb, lit≤}
+use lib.Dec.{lit≤}
 use lib.ListN.{length, length-append}
 use borrow.Author.Tests.{eq-eqb}
 use Rattle.frames.specs.declared.LineAnswer.{LineAnswer}
-use Rattle.frames.specs.declared.LineAnswer.the-variants.{Silence, Reply, Collision}
+use Rattle.frames.specs.declared.LineAnswer.the-variants.{Reply}
 use Rattle.frames.specs.Words.{fCode, address, wordOf}
-use Rattle.groups.specs.Groups.{isGroup, inGroup, groupWord, requestWord, Place, at, after, follows}
-use Rattle.groups.specs.Sets.{Member, devices, howMany, Rising}
+use Rattle.groups.specs.Groups.{inGroup, groupWord, requestWord, Place, after, follows}
+use Rattle.groups.specs.Sets.{Member, devices, Rising}
 use Rattle.groups.specs.Search.{searchOf}
 use Rattle.groups.proofs.Follow.{Group, is-group, in-lower, in-upper, lower, upper, never-itself}
 use Rattle.groups.proofs.Words.{request-part}
@@ -25,12 +25,12 @@ use Rattle.groups.proofs.Costs.{finds, cost, devices-few, once, collided, halve
 use Rattle.rounds.specs.declared.Phase.the-variants.{Asked, Ended}
 use Rattle.rounds.specs.declared.Step.the-variants.{Next}
 use Rattle.rounds.specs.Rounds.{Verdict, nobody, named, unclear, judge, stand, round}
-use Rattle.rounds.specs.Lines.{Line, History, onLine, begun, run, isRead}
+use Rattle.rounds.specs.Lines.{Line, History, onLine, begun, isRead}
 use Rattle.rounds.specs.Walks.{Seen, asked, read, Walk, silence, reply, again, halves, single, Reaches, here, asking, Room}
 use Rattle.rounds.specs.Demand.{Truth, none, one, several, Truthful, readOrder, AllRead}
 use Rattle.rounds.proofs.Heart.{Fits, beyond, one-step, reached, grows, first, heart, room-most}
 use Rattle.rounds.proofs.Events.{asks}
-use Rattle.rounds.proofs.Any.{on-line, nothing, top, started, all, walk, all-few, final, ended-here}
+use Rattle.rounds.proofs.Any.{on-line, nothing, top, started, all, walk, all-few, final}
 
 -- ---- what is heard tells which devices there are
 abbrev verdictOf : List ℕ → Verdict

@@ -10,7 +10,7 @@ use Rattle.rounds.specs.declared.Round.{Round}
 use Rattle.rounds.specs.declared.Step.{Step}
 use Rattle.rounds.specs.declared.Step.the-variants.{Next}
 use Rattle.rounds.specs.Rounds.{Verdict, nobody, named, unclear, oneRequest, oneRead, oneUnresolved, round, goOn, stepBy}
-use Rattle.rounds.specs.Lines.{History, tickBy, runBy}
+use Rattle.rounds.specs.Lines.{History, tickBy}
 
 -- the words sent so far, the newest first, and the counts
 pub record Seen : Type 0 where

@@ -1,14 +1,14 @@
 -- Each way through the search of a group, and through the search of the set.
 -- Assumes nothing.
-use mathlib.Core.Path.{_≡_, refl, sym, ap, ap₂, _∙_, subst}
-use mathlib.Core.Bool.{Bool, true, false, cond}
-use mathlib.Core.List.{List, [], _∷_, _++_, List·Memᴰ, List·Memᴰ·eq-of-singleton, List·Memᴰ·not-nil}
+use mathlib.Core.Path.{_≡_, refl, sym, ap, _∙_, subst}
+use mathlib.Core.Bool.{Bool, true, false}
+use mathlib.Core.List.{List, [], _∷_, _++_, List·Memᴰ, List·Memᴰ·eq-of-singleton}
 use mathlib.Core.List.List·Memᴰ.{List·Memᴰ·head}
-use Prim.Native.Nat.{ℕ, zero, suc, _+_, _-_, _*_, _%_, _^_, _≤_, _<_}
+use Prim.Native.Nat.{ℕ, zero, suc, _+_, _-_, _%_, _^_, _≤_, _<_}
 use native.Mathlib.Omega.{arith}
 use native.Mathlib.Nat.{add-zero}
-use lib.Dec.{ltb, eqb}
-use lib.ListN.{length, length-append, set, length-set, drop}
+use lib.Dec.{ltb}
+use lib.ListN.{length, length-append, set, drop}
 use lib.Pow.{pow-mono}
 use borrow.Author.Tests.{lt-ltb, le-ltb, eq-eqb, ne-eqb, ltb-true, ltb-false}
 use Rattle.refusals.specs.Told.{Told, gives, refusal}
@@ -16,13 +16,13 @@ use Rattle.frames.specs.declared.LineAnswer.{LineAnswer}
 use Rattle.frames.specs.declared.LineAnswer.the-variants.{Silence, Reply, Collision}
 use Rattle.frames.specs.Words.{wordOf}
 use Rattle.groups.specs.Groups.{isGroup}
-use Rattle.groups.specs.Sets.{Member, devices, howMany}
+use Rattle.groups.specs.Sets.{devices, howMany}
 use Rattle.groups.specs.Search.{searchOf}
 use Rattle.groups.proofs.Follow.{Group, is-group, group-is, in-lower, in-upper}
 use Rattle.groups.proofs.Members.{member, listed}
 use Rattle.groups.proofs.Counting.{set-count}
 use Rattle.groups.proofs.Costs.{finds, devices-few, requests-few, once, collided, halved}
-use Rattle.search.specs.Searches.{inSet, searchBy, searched, written}
+use Rattle.search.specs.Searches.{inSet, searched, written}
 use Rattle.search.specs.Inside.{answerTo, Tally, placed}
 
 -- ---- what a group answers

@@ -1,7 +1,7 @@
 -- `groups::bound` meets its contract: 2^12 with its last M bits cut off is 2^(12-M).
 -- Assumes nothing.
 use mathlib.Core.Path.{_≡_, refl}
-use Prim.Native.Nat.{ℕ, _-_, _^_}
+use Prim.Native.Nat.{_-_}
 use native.Mathlib.Omega.{arith}
 use borrow.Author.Needs.{needs}
 use Rattle.groups.proofs.Powers.{cut}

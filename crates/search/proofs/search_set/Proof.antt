@@ -3,7 +3,6 @@
 use mathlib.Core.Path.{refl}
 use native.Mathlib.Omega.{arith}
 use borrow.Author.Needs.{needs}
-use Rattle.search.specs.Searches.{inSet}
 use Rattle.search.proofs.Walking.{set-wrong, all-there, set-short, set-done}
 use Rattle.search.proofs.search_set.Statement.{statement}
 use Rattle.search.proofs.search_set.Tie as tie

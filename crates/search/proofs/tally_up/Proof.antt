@@ -1,12 +1,10 @@
 -- `search::tally_up` meets its contract: the devices met, and those along the addresses that are left, are those of the group.
 -- Assumes nothing.
-use mathlib.Core.Path.{_≡_, _∙_, sym}
-use mathlib.Core.Bool.{true, false}
+use mathlib.Core.Path.{_∙_, sym}
 use mathlib.Core.Logic.{⊎-elim}
-use Prim.Native.Nat.{_+_, _-_, _^_, _≤_, _<_}
+use Prim.Native.Nat.{_-_}
 use native.Mathlib.Omega.{arith}
 use borrow.Author.Needs.{needs}
-use Rattle.groups.specs.Groups.{isGroup}
 use Rattle.groups.proofs.Follow.{group-is}
 use Rattle.search.specs.Searches.{inSet}
 use Rattle.search.proofs.Tallies.{Left, none-yet, narrow, passed, met, enough-met, all-met}

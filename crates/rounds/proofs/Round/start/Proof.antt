@@ -1,10 +1,8 @@
 -- `rounds::Round::start` meets its contract.
 -- Assumes nothing.
-use mathlib.Core.Path.{ap}
 use borrow.Author.Needs.{needs}
 use borrow.Author.Tests.{lt-ltb, le-ltb}
 use Rattle.rounds.specs.Rounds.{startOf}
-use Rattle.rounds.specs.Told.{told}
 use Rattle.rounds.proofs.Round.start.Statement.{statement}
 use Rattle.rounds.proofs.Round.start.Tie as tie
 
