@@ -14,7 +14,9 @@ use Rattle.frames.specs.Rows.{reserved, dataBytes, blocks, blockBytes, f
 use Rattle.frames.specs.Blocks.{rightBlocks, dataIn, framed}
 use Rattle.frames.specs.Master.{masterFrame, masterRead, masterWriteBy, masterWrite, masterWriteOut}
 use Rattle.frames.specs.Slave.{slaveFrame, slaveData, slaveReadBy, slaveRead, slaveReadOut, slaveWriteBy, slaveWrite, slaveWriteOut}
-use Rattle.frames.specs.Line.{silence, reply, collision, lineAnswer}
+use Rattle.frames.specs.Answers.{toldLine}
+use Rattle.frames.specs.Line.{answerOf, lineAnswer}
+use Rattle.frames.specs.declared.LineAnswer.the-variants.{Silence, Reply, Collision}
 use Rattle.frames.proofs.Rows.{full, whole}
 
 -- ---- what the code's test of `allowed` shows
@@ -146,12 +148,12 @@ module _ (w : List ℕ) where
   unfolding masterRead
   master-read-1 a = simp (ne-eqb (length w) 3 a)
 
-  pub line-none : length w ≡ 0 → silence ≡ lineAnswer w
-  unfolding lineAnswer
+  pub line-none : length w ≡ 0 → toldLine Silence ≡ lineAnswer w
+  unfolding answerOf
   line-none a = simp (eq-eqb (length w) 0 a)
 
-  pub line-length : (length w ≡ 0 → ⊥) → (length w ≡ 3 → ⊥) → collision ≡ lineAnswer w
-  unfolding lineAnswer
+  pub line-length : (length w ≡ 0 → ⊥) → (length w ≡ 3 → ⊥) → toldLine Collision ≡ lineAnswer w
+  unfolding answerOf
   line-length a b = simp (ne-eqb (length w) 0 a, ne-eqb (length w) 3 b)
 
   module _ (a : length w ≡ 3) {right : ℕ} (r : right ≡ rightBlocks 1 2 w) where
@@ -159,13 +161,13 @@ module _ (w : List ℕ) where
     unfolding masterRead
     master-read-2 b = simp (eq-eqb (length w) 3 a, ne-eqb (rightBlocks 1 2 w) 1 (λ e. b (r ∙ e)))
 
-    pub line-wrong : (length w ≡ 0 → ⊥) → (right ≡ 1 → ⊥) → collision ≡ lineAnswer w
-    unfolding lineAnswer
+    pub line-wrong : (length w ≡ 0 → ⊥) → (right ≡ 1 → ⊥) → toldLine Collision ≡ lineAnswer w
+    unfolding answerOf
     line-wrong z b = simp (ne-eqb (length w) 0 z, eq-eqb (length w) 3 a, ne-eqb (rightBlocks 1 2 w) 1 (λ e. b (r ∙ e)))
 
     module _ (b : right ≡ 1) (word : ℕ) (e : word ≡ wordIn w) where
-      pub line-reply : (length w ≡ 0 → ⊥) → reply word ≡ lineAnswer w
-      unfolding lineAnswer
+      pub line-reply : (length w ≡ 0 → ⊥) → toldLine (Reply word) ≡ lineAnswer w
+      unfolding answerOf
       line-reply z = simp (ne-eqb (length w) 0 z, eq-eqb (length w) 3 a, eq-eqb (rightBlocks 1 2 w) 1 (sym r ∙ b), e)
 
       pub master-read-3 : (f : ℕ) (allowed : Bool) → f ≡ fCode word → allowed ≡ not (reserved f) → not allowed ≡ true → refusal 3 ≡ masterRead w

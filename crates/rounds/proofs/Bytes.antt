@@ -10,9 +10,7 @@ use Rattle.frames.specs.declared.LineAnswer.{LineAnswer}
 use Rattle.frames.specs.declared.LineAnswer.the-variants.{Silence, Reply, Collision}
 use Rattle.frames.specs.Words.{wordOf}
 use Rattle.frames.specs.Master.{masterFrame}
-use Rattle.frames.specs.Line.{rightFrame, lineAnswer}
-use Rattle.frames.specs.Answers.{toldLine}
-use Rattle.frames.proofs.Apart.{lines-apart}
+use Rattle.frames.specs.Line.{rightFrame, answerOf}
 use Rattle.frames.proofs.LineLaws.{none-is-silence, frame-is-reply, other-is-collision}
 use Rattle.rounds.specs.Lines.{Line}
 use Rattle.rounds.specs.Demand.{Truth, Truthful, none as truth-none, one as truth-one, several as truth-several}
@@ -21,15 +19,15 @@ use Rattle.rounds.proofs.Exists.{trueLine, exists}
 
 module _ (S : ℕ → Bool) (m c : ℕ) where
   -- the answer made from such bytes
-  shown-true : (a : LineAnswer) (came : List ℕ) → toldLine a ≡ lineAnswer came → Shown S m c came → Truth S m c a
+  shown-true : (a : LineAnswer) (came : List ℕ) → a ≡ answerOf came → Shown S m c came → Truth S m c a
   shown-true a came made (none f e) =
-      let q : a ≡ Silence = lines-apart a Silence (made ∙ ap lineAnswer e ∙ none-is-silence) in
+      let q : a ≡ Silence = made ∙ ap answerOf e ∙ none-is-silence in
       subst (λ (x : LineAnswer). Truth S m c x) (sym q) (truth-none f)
   shown-true a came made (one b r u e) =
-      let q : a ≡ Reply (wordOf 12 b) = lines-apart a (Reply (wordOf 12 b)) (made ∙ ap lineAnswer e ∙ frame-is-reply (wordOf 12 b)) in
+      let q : a ≡ Reply (wordOf 12 b) = made ∙ ap answerOf e ∙ frame-is-reply (wordOf 12 b) in
       subst (λ (x : LineAnswer). Truth S m c x) (sym q) (truth-one b r u)
   shown-true a came made (several b d r q f some wrong) =
-      let x : a ≡ Collision = lines-apart a Collision (made ∙ other-is-collision came some wrong) in
+      let x : a ≡ Collision = made ∙ other-is-collision came some wrong in
       subst (λ (y : LineAnswer). Truth S m c y) (sym x) (truth-several b d r q f)
 
   -- bytes for an answer; a single byte is no right frame
@@ -48,7 +46,7 @@ bytesFor Silence = []
 bytesFor (Reply w) = masterFrame w
 bytesFor Collision = 0 ∷ []
 
-made-from : (a : LineAnswer) → toldLine a ≡ lineAnswer (bytesFor a)
+made-from : (a : LineAnswer) → a ≡ answerOf (bytesFor a)
 made-from Silence = sym none-is-silence
 made-from (Reply w) = sym (frame-is-reply w)
 made-from Collision = sym (other-is-collision (0 ∷ []) (λ z. omega arith) refl)

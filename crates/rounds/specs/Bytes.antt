@@ -7,8 +7,7 @@ use mathlib.Core.List.{List, [], _∷_}
 use lib.ListN.{length}
 use Rattle.frames.specs.Words.{wordOf}
 use Rattle.frames.specs.Master.{masterFrame}
-use Rattle.frames.specs.Line.{rightFrame, lineAnswer}
-use Rattle.frames.specs.Answers.{toldLine}
+use Rattle.frames.specs.Line.{rightFrame, answerOf}
 use Rattle.groups.specs.Groups.{isGroup, requestWord}
 use Rattle.groups.specs.Sets.{Member}
 use Rattle.rounds.specs.declared.Round.{Round}
@@ -21,7 +20,7 @@ ByteLine = List ℕ → List ℕ
 
 -- each answer that the round takes is "made from bytes", as `frames::line_answer` promises it
 abbrev pub MadeFrom : ByteLine → Line → Type 0
-MadeFrom bytes line = (words : List ℕ) → toldLine (line words) ≡ lineAnswer (bytes words)
+MadeFrom bytes line = (words : List ℕ) → line words ≡ answerOf (bytes words)
 
 -- no bytes for no device; for one the word of F_code 12 and its address, with its check sequence; for several some bytes that are no right
 -- 3-byte frame
