@@ -209,6 +209,7 @@ module _ (S : ℕ → Bool) (p : ℕ) (h : p ≤ 4095) (line : Line) (truth : Tr
         unresolved = k .clear;
         order-found = o ∙ sym (finds S 12 0);
         requests-found = q;
+        reads-found = k .read-all ∙ zero-add (length (devices S 12 0)) ∙ ap length (sym (finds S 12 0));
       }
     where
       mod-one : (a : ℕ) → a % 2 ^ (12 - 12) ≡ 0

@@ -34,7 +34,7 @@ readOrder [] = []
 readOrder (word ∷ words) = readOrder words ++ cond (isRead word) (address word ∷ []) []
 
 -- "each of the k is read exactly once and no other device is, in the order document 01 fixes, after at most 1 + 24 x floor(k/2) requests",
--- with none unresolved; and the steps "agree with" the search
+-- with none unresolved; and read order, requests and reads "agree with" the search
 pub record AllRead (S : ℕ → Bool) (h : History) : Type 0 where
   pub round : Round
   pub counts : Counts
@@ -48,3 +48,4 @@ pub record AllRead (S : ℕ → Bool) (h : History) : Type 0 where
   pub unresolved : counts .unresolved ≡ 0
   pub order-found : readOrder (h .sent) ≡ searchOf S 12 0 .order
   pub requests-found : counts .requests ≡ searchOf S 12 0 .requests
+  pub reads-found : counts .reads ≡ length (searchOf S 12 0 .order)

@@ -57,7 +57,7 @@ impl Round {
             reads: 0,
             unresolved: 0,
         };
-        Step::Next(round, 36864 + params)
+        Step::Next(round, words::GENERAL_EVENT + params)
     }
 
     // Takes the line's answer to the word that was handed out last.
