@@ -1,0 +1,3 @@
+pub mod NumberLaws
+pub mod Answers
+pub mod RunLaws
