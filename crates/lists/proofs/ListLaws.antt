@@ -13,8 +13,8 @@ use lib.Pow.{pow-pos}
 use lib.Seq.{drop-cons, getD-take, length-take-le, take-at}
 use Rattle.refusals.specs.declared.Refusal.{Refusal}
 use Rattle.refusals.specs.Refusals.{numberOf}
-use Rattle.refusals.specs.Told.{Told, gives, refusing, no as refused}
-use Rattle.timing.specs.Telegram.{telegramBits}
+use Rattle.refusals.specs.Told.{Told, gives, refusing, refusal}
+use Rattle.timing.specs.Timing.{telegramBits}
 use Rattle.lists.specs.declared.Header.{Header}
 use Rattle.lists.specs.declared.HeadRead.{HeadRead}
 use Rattle.lists.specs.declared.HeadRead.the-variants.{Head, Refused as Refused-head}
@@ -146,14 +146,14 @@ none-after : (s : List ℕ) (end : ℕ) → length s ≤ end → none (drop end 
 none-after s end h = ap none (drop-of-length-le s h)
 
 module _ (s : List ℕ) (head : Header) (end : ℕ) where
-  pub finish-11 : end < length s → (cs : List Cycle) → refused 11 ≡ toldRead (ended (record { head = head; cycles = cs }) (drop end s))
+  pub finish-11 : end < length s → (cs : List Cycle) → refusal 11 ≡ toldRead (ended (record { head = head; cycles = cs }) (drop end s))
   unfolding ended ending
   finish-11 h cs = rw (bytes-after s end h)
 
   module _ (h : length s ≤ end) (words : ℕ) (load : List ℕ) (g : GoodHead head) where
     module _ (a : Bool) (e : a ≡ some (length load) (λ (j : ℕ). ltb (1500 * head .ms - head .reserve) (getD load j 0 % 1400000))) where
       pub finish-10 : a ≡ true → (weights : List ℕ) (cs : List Cycle) → WeightsOf (head .gap) weights → length load ≡ periodsOf (head .ms) → length cs ≡ cyclesOf (head .ms)
-          → Loaded weights load cs words → refused 10 ≡ toldRead (ended (record { head = head; cycles = cs }) (drop end s))
+          → Loaded weights load cs words → refusal 10 ≡ toldRead (ended (record { head = head; cycles = cs }) (drop end s))
       unfolding ended ending
       finish-10 t weights cs w l n d =
           let o : overfull (record { head = head; cycles = cs }) ≡ true = sym (load-overfull head weights load cs words g w l n d) ∙ sym e ∙ t in
@@ -161,7 +161,7 @@ module _ (s : List ℕ) (head : Header) (end : ℕ) where
 
       module _ (t : a ≡ false) (b : Bool) (f : b ≡ some (length load) (λ (j : ℕ). ltb 64 (getD load j 0 / 1400000))) where
         pub finish-19 : b ≡ true → (weights : List ℕ) (cs : List Cycle) → WeightsOf (head .gap) weights → length load ≡ periodsOf (head .ms) → length cs ≡ cyclesOf (head .ms)
-            → Loaded weights load cs words → refused 19 ≡ toldRead (ended (record { head = head; cycles = cs }) (drop end s))
+            → Loaded weights load cs words → refusal 19 ≡ toldRead (ended (record { head = head; cycles = cs }) (drop end s))
         unfolding ended ending
         finish-19 u weights cs w l n d =
             let o : overfull (record { head = head; cycles = cs }) ≡ false = sym (load-overfull head weights load cs words g w l n d) ∙ sym e ∙ t in
@@ -272,7 +272,7 @@ module _ (s : List ℕ) (head : Header) (at cycles : ℕ) (c : cycles ≡ cycles
 
 -- ---- the file
 module _ (s : List ℕ) where
-  pub too-long : 16384 < length s → refused 1 ≡ toldRead (accepted s)
+  pub too-long : 16384 < length s → refusal 1 ≡ toldRead (accepted s)
   unfolding accepted
   too-long h = rw (lt-leb (length s) 16384 h)
 

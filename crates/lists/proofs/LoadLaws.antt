@@ -8,7 +8,7 @@ use mathlib.Core.Logic.{⊎-elim}
 use native.Mathlib.Nat.{eq-or-lt-of-le, le-of-suc-le-suc}
 use native.Mathlib.Omega.{arith}
 use lib.ListN.{length, getD}
-use Rattle.timing.specs.Telegram.{telegramBits}
+use Rattle.timing.specs.Timing.{telegramBits}
 use Rattle.lists.specs.Sends.{some}
 use Rattle.lists.specs.Inside.{Weights, WeightsOf}
 use Rattle.lists.proofs.TelegramLaws.{by-fcode}

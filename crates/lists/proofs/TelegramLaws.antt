@@ -5,12 +5,13 @@ use mathlib.Core.Path.{_≡_, refl, ap, sym, _∙_, subst}
 use mathlib.Core.List.{List, [], _∷_}
 use mathlib.Core.Bool.{Bool, true, false, _||_}
 use native.Mathlib.Omega.{arith}
-use borrow.Author.Tests.{lt-ltb, le-ltb, ltb-true, ltb-false, eqb-true}
+use borrow.Author.Tests.{ltb-true, eqb-true, le-leb}
 use lib.Dec.{ltb, eqb}
 use Rattle.refusals.specs.declared.Refusal.{Refusal}
 use Rattle.refusals.specs.Told.{Told, gives, refusing}
 use Rattle.refusals.proofs.Apart.{never-both}
-use Rattle.timing.specs.Telegram.{telegramBits, telegram}
+use Rattle.frames.specs.Rows.{reserved, dataBits, dataBytes, blocks, frameBytes, lineBits}
+use Rattle.timing.specs.Timing.{telegramBits, telegramAnswer}
 use Rattle.lists.specs.Inside.{Listable}
 
 -- what holds of F_codes 0 to 4 and 15 holds of every listed word's
@@ -30,21 +31,21 @@ by-fcode P a b c d e z f h = go (ltb f 5) refl
     go false q = subst P (sym (eqb-true f 15 (sym (ap (λ (t : Bool). t || eqb f 15) q) ∙ h))) z
 
 pub telegram-range : (gap f : ℕ) → Listable f → (66 + gap ≤ telegramBits f gap) × (telegramBits f gap ≤ 330 + gap)
-unfolding telegramBits
+unfolding telegramBits lineBits frameBytes dataBytes blocks dataBits
 telegram-range gap =
     by-fcode (λ (f : ℕ). (66 + gap ≤ telegramBits f gap) × (telegramBits f gap ≤ 330 + gap))
     (omega arith, omega arith) (omega arith, omega arith) (omega arith, omega arith) (omega arith, omega arith) (omega arith, omega arith) (omega arith, omega arith)
 
-telegram-given : (gap : ℕ) → 4 ≤ gap → gap ≤ 128 → (f : ℕ) → Listable f → telegram f gap ≡ gives (telegramBits f gap ∷ [])
-unfolding telegram
+telegram-given : (gap : ℕ) → 4 ≤ gap → gap ≤ 128 → (f : ℕ) → Listable f → telegramAnswer f gap ≡ gives (telegramBits f gap ∷ [])
+unfolding telegramAnswer reserved dataBits
 telegram-given gap l h =
-    by-fcode (λ (f : ℕ). telegram f gap ≡ gives (telegramBits f gap ∷ []))
-    (simp (le-ltb gap 4 l, le-ltb 128 gap h)) (simp (le-ltb gap 4 l, le-ltb 128 gap h)) (simp (le-ltb gap 4 l, le-ltb 128 gap h))
-    (simp (le-ltb gap 4 l, le-ltb 128 gap h)) (simp (le-ltb gap 4 l, le-ltb 128 gap h)) (simp (le-ltb gap 4 l, le-ltb 128 gap h))
+    by-fcode (λ (f : ℕ). telegramAnswer f gap ≡ gives (telegramBits f gap ∷ []))
+    (simp (le-leb 4 gap l, le-leb gap 128 h)) (simp (le-leb 4 gap l, le-leb gap 128 h)) (simp (le-leb 4 gap l, le-leb gap 128 h))
+    (simp (le-leb 4 gap l, le-leb gap 128 h)) (simp (le-leb 4 gap l, le-leb gap 128 h)) (simp (le-leb 4 gap l, le-leb gap 128 h))
 
 module _ (f gap : ℕ) (o : Listable f) (l : 4 ≤ gap) (h : gap ≤ 128) where
-  pub telegram-bits : (n : ℕ) → gives (n ∷ []) ≡ telegram f gap → n ≡ telegramBits f gap
+  pub telegram-bits : (n : ℕ) → gives (n ∷ []) ≡ telegramAnswer f gap → n ≡ telegramBits f gap
   telegram-bits n e = let q : gives (n ∷ []) ≡ gives (telegramBits f gap ∷ []) = e ∙ telegram-given gap l h f o in cc
 
-  pub never-refused : (m : Refusal) → refusing m ≡ telegram f gap → ⊥
+  pub never-refused : (m : Refusal) → refusing m ≡ telegramAnswer f gap → ⊥
   never-refused m e = never-both (telegramBits f gap ∷ []) m (sym (e ∙ telegram-given gap l h f o))

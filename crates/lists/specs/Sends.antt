@@ -5,7 +5,7 @@ use mathlib.Core.List.{List, [], _∷_, _++_}
 use mathlib.Core.Bool.{Bool, true, false, _||_}
 use lib.ListN.{length, getD, take, drop}
 use lib.Dec.{ltb}
-use Rattle.timing.specs.Telegram.{telegramBits}
+use Rattle.timing.specs.Timing.{telegramBits}
 use Rattle.lists.specs.Values.{Cycle, PeriodicList, periodsOf}
 use Rattle.lists.specs.Rules.{fcode}
 

@@ -6,7 +6,7 @@ ghost use mathlib.Core.Bool.{true};
 ghost use Prim.Native.Nat.{ℕ, _+_, _*_, _/_, _%_, _≤_};
 ghost use lib.ListN.{length, getD};
 ghost use lib.Dec.{ltb};
-ghost use Rattle.timing.specs.Telegram.{telegramBits};
+ghost use Rattle.timing.specs.Timing.{telegramBits};
 ghost use Rattle.lists.specs.Sends.{some};
 ghost use Rattle.lists.specs.Inside.{Listable, WeightsOf};
 

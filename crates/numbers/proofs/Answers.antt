@@ -7,7 +7,7 @@ use native.Mathlib.Omega.{arith}
 use lib.ListN.{drop}
 use Rattle.refusals.specs.declared.Refusal.{Refusal}
 use Rattle.refusals.specs.Refusals.{numberOf}
-use Rattle.refusals.specs.Told.{Told, gives, refusing, no}
+use Rattle.refusals.specs.Told.{Told, gives, refusing, refusal}
 use Rattle.refusals.proofs.Apart.{refusals-apart, never-both}
 use Rattle.numbers.specs.declared.Number.{Number}
 use Rattle.numbers.specs.declared.Number.the-variants.{Value, Refused}

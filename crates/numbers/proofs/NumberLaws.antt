@@ -10,7 +10,7 @@ use borrow.Author.Tests.{lt-ltb, le-ltb, ltb-true, ltb-false}
 use lib.ListN.{length, getD, drop, drop-of-length-le}
 use lib.Seq.{drop-cons}
 use lib.Dec.{ltb}
-use Rattle.refusals.specs.Told.{Told, gives, no}
+use Rattle.refusals.specs.Told.{Told, gives, refusal}
 use Rattle.numbers.specs.Number.{Groups, cut, whole, under, byTop, groups, Taken, bad, taken, badIf, judged, number, from, numberAt}
 
 -- where the last group is not 0, the value is not 0
@@ -125,7 +125,7 @@ module _ (s : List ℕ) (at : ℕ) where
   byte : at < length s → drop at s ≡ getD s at 0 ∷ drop (at + 1) s
   byte h = rw (add-one, drop-cons s at 0)
 
-  pub at-end : length s ≤ at → numberAt s at ≡ no 5
+  pub at-end : length s ≤ at → numberAt s at ≡ refusal 5
   unfolding numberAt
   at-end h = ap (λ (l : List ℕ). from at (number l)) (drop-of-length-le s h) ∙ ap (from at) none-left
 
@@ -134,7 +134,7 @@ module _ (s : List ℕ) (at : ℕ) where
   at-one h l = ap (from at) (ap number (byte h) ∙ one-byte (getD s at 0) (drop (at + 1) s) l)
 
 module _ (s : List ℕ) (at : ℕ) (h : at < length s) (m : 128 ≤ getD s at 0) where
-  pub at-cut-one : length s ≤ at + 1 → numberAt s at ≡ no 5
+  pub at-cut-one : length s ≤ at + 1 → numberAt s at ≡ refusal 5
   unfolding numberAt
   at-cut-one e = ap (from at) (ap number (byte s at h) ∙ ap (λ (l : List ℕ). number (getD s at 0 ∷ l)) (drop-of-length-le s e) ∙ cut-one (getD s at 0) m)
 
@@ -144,7 +144,7 @@ module _ (s : List ℕ) (at : ℕ) (h : at < length s) (m : 128 ≤ getD s at 0)
         let e : at + 1 + 1 ≡ at + 2 = omega arith in
         byte s at h ∙ ap (λ (l : List ℕ). getD s at 0 ∷ l) (byte s (at + 1) i ∙ ap (λ (k : ℕ). getD s (at + 1) 0 ∷ drop k s) e)
 
-    pub at-zero-two : getD s (at + 1) 0 ≡ 0 → numberAt s at ≡ no 5
+    pub at-zero-two : getD s (at + 1) 0 ≡ 0 → numberAt s at ≡ refusal 5
     unfolding numberAt
     at-zero-two e = ap (from at) (ap number bytes-two ∙ zero-two (getD s at 0) m (getD s (at + 1) 0) (drop (at + 2) s) e)
 
@@ -153,7 +153,7 @@ module _ (s : List ℕ) (at : ℕ) (h : at < length s) (m : 128 ≤ getD s at 0)
     at-two w p l = ap (from at) (ap number bytes-two ∙ two-bytes (getD s at 0) m (getD s (at + 1) 0) (drop (at + 2) s) w p l)
 
     module _ (n : 128 ≤ getD s (at + 1) 0) where
-      pub at-cut-two : length s ≤ at + 2 → numberAt s at ≡ no 5
+      pub at-cut-two : length s ≤ at + 2 → numberAt s at ≡ refusal 5
       unfolding numberAt
       at-cut-two e =
           ap (from at) (ap number (bytes-two ∙ ap (λ (l : List ℕ). getD s at 0 ∷ getD s (at + 1) 0 ∷ l) (drop-of-length-le s e)) ∙ cut-two (getD s at 0) m (getD s (at + 1) 0) n)
@@ -164,11 +164,11 @@ module _ (s : List ℕ) (at : ℕ) (h : at < length s) (m : 128 ≤ getD s at 0)
             let e : at + 2 + 1 ≡ at + 3 = omega arith in
             bytes-two ∙ ap (λ (l : List ℕ). getD s at 0 ∷ getD s (at + 1) 0 ∷ l) (byte s (at + 2) j ∙ ap (λ (k : ℕ). getD s (at + 2) 0 ∷ drop k s) e)
 
-        pub at-zero-three : getD s (at + 2) 0 ≡ 0 → numberAt s at ≡ no 5
+        pub at-zero-three : getD s (at + 2) 0 ≡ 0 → numberAt s at ≡ refusal 5
         unfolding numberAt
         at-zero-three e = ap (from at) (ap number bytes-three ∙ zero-three (getD s at 0) m (getD s (at + 1) 0) n (getD s (at + 2) 0) (drop (at + 3) s) e)
 
-        pub at-above : 3 < getD s (at + 2) 0 → numberAt s at ≡ no 5
+        pub at-above : 3 < getD s (at + 2) 0 → numberAt s at ≡ refusal 5
         unfolding numberAt
         at-above e = ap (from at) (ap number bytes-three ∙ above-three (getD s at 0) m (getD s (at + 1) 0) n (getD s (at + 2) 0) (drop (at + 3) s) e)
 

@@ -5,7 +5,7 @@ use mathlib.Core.List.{List, [], _∷_}
 use mathlib.Core.Bool.{Bool, true, false}
 use lib.ListN.{drop}
 use lib.Dec.{ltb}
-use Rattle.refusals.specs.Told.{Told, gives, no}
+use Rattle.refusals.specs.Told.{Told, gives, refusal}
 
 -- what the groups at the front of some bytes say: cut off before a last byte; or the value, how many bytes, and the last byte
 pub data Groups : Type 0 where
@@ -47,7 +47,7 @@ number bytes = judged (groups bytes)
 
 -- the number and the place after it, or "5: number cut off, not shortest, or above 65,535"
 abbrev pub from : ℕ → Taken → Told
-from at bad = no 5
+from at bad = refusal 5
 from at (taken v n) = gives (v ∷ (at + n) ∷ [])
 
 -- the number at a place; "a place at or past the end gives 5", since no bytes are left there

@@ -5,7 +5,7 @@ use native.Mathlib.Omega.{arith}
 use Prim.Native.Nat.{ℕ, _+_}
 use mathlib.Core.Path.{_≡_, sym, ap, _∙_}
 use Rattle.timing.specs.Answers.{toldTelegram}
-use Rattle.timing.specs.Telegram.{telegramBits}
+use Rattle.timing.specs.Timing.{telegramBits}
 use Rattle.lists.proofs.TelegramLaws.{telegram-bits, never-refused, telegram-range}
 use Rattle.lists.proofs.load.weight.Statement.{statement}
 use Rattle.lists.proofs.load.weight.Tie as tie
