@@ -10,3 +10,4 @@ pub mod SentLaws
 pub mod CyclesLaws
 pub mod ListLaws
 pub mod ThenLaws
+pub mod WasLaws

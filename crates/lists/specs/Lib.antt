@@ -5,3 +5,4 @@ pub mod Sends
 pub mod Accepts
 pub mod Answers
 pub mod Inside
+pub mod Written
