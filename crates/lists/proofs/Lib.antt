@@ -11,3 +11,4 @@ pub mod CyclesLaws
 pub mod ListLaws
 pub mod ThenLaws
 pub mod WasLaws
+pub mod ClashLaws

@@ -16,6 +16,7 @@ use Rattle.lists.specs.declared.Header.{Header}
 use Rattle.lists.specs.Values.{Cycle, PeriodicList, cyclesOf, wordsOf, sum}
 use Rattle.lists.specs.Rules.{Check, right, wrong, unless, also, fcode, processData, listable, clashes, wordRule, splitRule, rules}
 use Rattle.lists.specs.Reading.{Read, no, yes, then, when, orFive, numberIn, within, afterMs, headerIn, wordsIn, splitsIn, summedIn, splitIn, bodyIn, cycleIn, cyclesIn}
+use Rattle.lists.specs.Inside.{GoodHead}
 use Rattle.lists.specs.Written.{cycleNumbers, cyclesNumbers, All, Split}
 use Rattle.lists.proofs.HeadLaws.{in-range}
 use Rattle.lists.proofs.SentLaws.{words-snoc}
@@ -209,31 +210,37 @@ cycle-written c t =
     append-assoc (bytesOf (length (c .words))) (written (c .words ++ c .splits)) t
     ∙ ap (λ (l : List ℕ). bytesOf (length (c .words)) ++ l) (ap (λ (l : List ℕ). l ++ t) (written-append (c .words) (c .splits)) ∙ append-assoc (written (c .words)) (written (c .splits)) t)
 
+cycle-built : (n k : ℕ) (before bytes r₁ r₂ r₃ ws zs : List ℕ) → NumberWas bytes k r₁ → k ≤ 256 → WordsWas before [] r₁ ws r₂ k → SplitWas n ws zs r₂ r₃ → CycleWas n before (record { words = ws; splits = zs }) bytes r₃
+cycle-built n k before bytes r₁ r₂ r₃ ws zs a f b d =
+    let l : length ws ≡ k = ap length (b .are) ∙ b .long in
+    let w : r₁ ≡ written ws ++ r₂ = b .bytes-are ∙ ap (λ (x : List ℕ). written x ++ r₂) (sym (b .are)) in
+    let z : r₁ ≡ written ws ++ (written zs ++ r₃) = w ∙ ap (λ (x : List ℕ). written ws ++ x) (d .bytes-are) in
+    let y : bytes ≡ bytesOf (length ws) ++ (written ws ++ (written zs ++ r₃)) = a .are ∙ ap (λ (x : ℕ). bytesOf x ++ r₁) (sym l) ∙ ap (λ (x : List ℕ). bytesOf (length ws) ++ x) z in
+    record {
+      count = omega arith;
+      fresh = subst (Fresh before) (sym (b .are)) (rw append-nil at (b .fresh));
+      shape = d .shape;
+      bytes-are = y ∙ sym (cycle-written (record { words = ws; splits = zs }) r₃);
+      tail = d .tail;
+    }
+
 cycle-was : (n : ℕ) (before : List ℕ) (c : Cycle) (bytes rest : List ℕ) → Bytes bytes → cycleIn rules n before bytes ≡ yes c rest → CycleWas n before c bytes rest
 unfolding cycleIn bodyIn
 cycle-was n before c bytes rest h e =
     let i = then-yes (within 0 256 bytes) (λ count r. bodyIn rules n before count r) c rest e in
-    let k : ℕ = i .0 in
-    let a = within-was 0 256 bytes k (i .1) h (i .2) in
-    let j = then-yes (wordsIn rules k before [] (i .1)) (λ ws r. then (splitIn rules n k r) (λ zs end. yes (record { words = ws; splits = zs }) end)) c rest (i .3) in
-    let ws : List ℕ = j .0 in
-    let b = words-was k before [] (i .1) ws (j .1) (a .0 .tail) (j .2) in
-    let m = then-yes (splitIn rules n k (j .1)) (λ zs end. yes (record { words = ws; splits = zs }) end) c rest (j .3) in
-    let zs : List ℕ = m .0 in
-    let l : length ws ≡ k = ap length (b .are) ∙ b .long in
-    let d = split-was n ws zs (j .1) (m .1) (b .tail) (ap (λ (x : ℕ). splitIn rules n x (j .1)) l ∙ m .2) in
-    let q : record { words = ws; splits = zs } ≡ c = yes-value (record { words = ws; splits = zs }) c (m .1) rest (m .3) in
-    let r : m .1 ≡ rest = yes-rest (record { words = ws; splits = zs }) c (m .1) rest (m .3) in
-    subst (λ (x : Cycle). CycleWas n before x bytes rest) {x = record { words = ws; splits = zs }} q (record {
-      count = omega (arith, a .2, l);
-      fresh = subst (Fresh before) (sym (b .are)) (rw append-nil at (b .fresh));
-      shape = d .shape;
-      bytes-are =
-          a .0 .are ∙ ap (λ (x : ℕ). bytesOf x ++ i .1) (sym l)
-          ∙ ap (λ (x : List ℕ). bytesOf (length ws) ++ x) (b .bytes-are ∙ ap (λ (x : List ℕ). written x ++ j .1) (sym (b .are)) ∙ ap (λ (x : List ℕ). written ws ++ x) (d .bytes-are ∙ ap (λ (x : List ℕ). written zs ++ x) r))
-          ∙ sym (cycle-written (record { words = ws; splits = zs }) rest);
-      tail = subst Bytes r (d .tail);
-    })
+    let a = within-was 0 256 bytes (i .0) (i .1) h (i .2) in
+    let j = then-yes (wordsIn rules (i .0) before [] (i .1)) (λ ws r. then (splitIn rules n (i .0) r) (λ zs end. yes (record { words = ws; splits = zs }) end)) c rest (i .3) in
+    let b = words-was (i .0) before [] (i .1) (j .0) (j .1) (a .0 .tail) (j .2) in
+    let m = then-yes (splitIn rules n (i .0) (j .1)) (λ zs end. yes (record { words = j .0; splits = zs }) end) c rest (j .3) in
+    let l : length (j .0) ≡ i .0 = ap length (b .are) ∙ b .long in
+    let d = split-was n (j .0) (m .0) (j .1) (m .1) (b .tail) (ap (λ (x : ℕ). splitIn rules n x (j .1)) l ∙ m .2) in
+    named (j .0) (m .0) (m .1) (cycle-built n (i .0) before bytes (i .1) (j .1) (m .1) (j .0) (m .0) (a .0) (a .2) b d) (m .3)
+  where
+    named : (ws zs end : List ℕ) → CycleWas n before (record { words = ws; splits = zs }) bytes end → yes (record { words = ws; splits = zs }) end ≡ yes c rest → CycleWas n before c bytes rest
+    named ws zs end w q =
+        let x : record { words = ws; splits = zs } ≡ c = yes-value (record { words = ws; splits = zs }) c end rest q in
+        let y : end ≡ rest = yes-rest (record { words = ws; splits = zs }) c end rest q in
+        subst (λ (u : List ℕ). CycleWas n before c bytes u) y (subst (λ (u : Cycle). CycleWas n before u bytes end) x w)
 
 cycle-back : (n : ℕ) (before : List ℕ) (c : Cycle) (t : List ℕ) → length (c .words) ≤ 256 → Fresh before (c .words) → Split n (c .words) (c .splits)
     → cycleIn rules n before (written (cycleNumbers c) ++ t) ≡ yes c t
@@ -292,5 +299,37 @@ cycles-back (c ∷ new) before n t f s =
     ∙ cycles-back new (before ++ c ∷ []) (suc n) t g (s .2) ∙ ap (λ (l : List Cycle). yes l t) (append-assoc before (c ∷ []) new)
 
 -- ---- the header
-headNumbers : Header → List ℕ
-headNumbers h = 1 ∷ h .ms ∷ h .gap ∷ h .reserve ∷ []
+abbrev pub headWritten : ℕ → ℕ → ℕ → List ℕ → List ℕ
+headWritten ms gap reserve t = bytesOf 1 ++ (bytesOf ms ++ (bytesOf gap ++ (bytesOf reserve ++ t)))
+
+pub header-was : (bytes : List ℕ) (h : Header) (rest : List ℕ) → Bytes bytes → headerIn bytes ≡ yes h rest → (bytes ≡ headWritten (h .ms) (h .gap) (h .reserve) rest) × Bytes rest
+unfolding headerIn afterMs
+header-was bytes h rest k e =
+    let a = then-yes (within 1 1 bytes) (λ one r. then (within 1 2 r) (λ ms end. afterMs ms end)) h rest e in
+    let b = then-yes (within 1 2 (a .1)) (λ ms end. afterMs ms end) h rest (a .3) in
+    let c = then-yes (within 4 128 (b .1)) (λ gap r. then (within (67 + gap) (1500 * b .0) r) (λ reserve end. yes (record { ms = b .0; gap = gap; reserve = reserve }) end)) h rest (b .3) in
+    let d = then-yes (within (67 + c .0) (1500 * b .0) (c .1)) (λ reserve end. yes (record { ms = b .0; gap = c .0; reserve = reserve }) end) h rest (c .3) in
+    let wa = within-was 1 1 bytes (a .0) (a .1) k (a .2) in
+    let wb = within-was 1 2 (a .1) (b .0) (b .1) (wa .0 .tail) (b .2) in
+    let wc = within-was 4 128 (b .1) (c .0) (c .1) (wb .0 .tail) (c .2) in
+    let wd = within-was (67 + c .0) (1500 * b .0) (c .1) (d .0) (d .1) (wc .0 .tail) (d .2) in
+    named (a .0) (b .0) (c .0) (d .0) (a .1) (b .1) (c .1) (d .1) (omega (arith, wa .1, wa .2)) (wa .0 .are) (wb .0 .are) (wc .0 .are) (wd .0 .are) (wd .0 .tail) (d .3)
+  where
+    named : (one ms gap reserve : ℕ) (r₁ r₂ r₃ end : List ℕ) → one ≡ 1 → bytes ≡ bytesOf one ++ r₁ → r₁ ≡ bytesOf ms ++ r₂ → r₂ ≡ bytesOf gap ++ r₃ → r₃ ≡ bytesOf reserve ++ end → Bytes end
+        → yes (record { ms = ms; gap = gap; reserve = reserve }) end ≡ yes h rest → (bytes ≡ headWritten (h .ms) (h .gap) (h .reserve) rest) × Bytes rest
+    named one ms gap reserve r₁ r₂ r₃ end o ea eb ec ed t q =
+        let x : record { ms = ms; gap = gap; reserve = reserve } ≡ h = yes-value (record { ms = ms; gap = gap; reserve = reserve }) h end rest q in
+        let y : end ≡ rest = yes-rest (record { ms = ms; gap = gap; reserve = reserve }) h end rest q in
+        let z : bytes ≡ headWritten ms gap reserve end = ea ∙ rw (o, eb, ec, ed) in
+        (subst (λ (u : List ℕ). bytes ≡ headWritten (h .ms) (h .gap) (h .reserve) u) y (subst (λ (u : Header). bytes ≡ headWritten (u .ms) (u .gap) (u .reserve) end) x z), subst Bytes y t)
+
+pub header-back : (h : Header) (t : List ℕ) → GoodHead h → headerIn (headWritten (h .ms) (h .gap) (h .reserve) t) ≡ yes h t
+unfolding headerIn afterMs
+header-back h t g =
+    let o : 1 ≤ 1 = omega arith in
+    let a = within-back 1 1 1 (bytesOf (h .ms) ++ (bytesOf (h .gap) ++ (bytesOf (h .reserve) ++ t))) o o (omega arith) in
+    let b = within-back 1 2 (h .ms) (bytesOf (h .gap) ++ (bytesOf (h .reserve) ++ t)) (g .ms-low) (g .ms-high) (omega arith) in
+    let c = within-back 4 128 (h .gap) (bytesOf (h .reserve) ++ t) (g .gap-low) (g .gap-high) (omega arith) in
+    let m : 1500 * h .ms ≤ 65535 = omega (arith, g .ms-high) in
+    let d = within-back (67 + h .gap) (1500 * h .ms) (h .reserve) t (g .reserve-low) (g .reserve-high) m in
+    rw (a, b, c, d)
