@@ -12,3 +12,4 @@ pub mod ListLaws
 pub mod ThenLaws
 pub mod WasLaws
 pub mod ClashLaws
+pub mod Acceptance
