@@ -47,12 +47,11 @@ ending-was l rest e =
     let a = also-right (unless 11 (none rest)) (also (unless 10 (not (overfull l))) (unless 19 (not (crowded l)))) e in
     let b = also-right (unless 10 (not (overfull l))) (unless 19 (not (crowded l))) (a .1) in
     let o : overfull l ≡ false = not-true (overfull l) (unless-right 10 (not (overfull l)) (b .0)) in
-    let c : crowded l ≡ false = not-true (crowded l) (unless-right 19 (not (crowded l)) (b .1)) in
-    (
+    let c : crowded l ≡ false = not-true (crowded l) (unless-right 19 (not (crowded l)) (b .1)) in (
       none-left rest (unless-right 11 (none rest) (a .0)),
       λ j h. ltb-false (1500 * l .head .ms) (takes (l .head .gap) (sends l j) + l .head .reserve)
-      (some-false (periodsOf (l .head .ms)) (λ (j : ℕ). ltb (1500 * l .head .ms) (takes (l .head .gap) (sends l j) + l .head .reserve)) o j h),
-      λ j h. ltb-false 64 (length (sends l j)) (some-false (periodsOf (l .head .ms)) (λ (j : ℕ). ltb 64 (length (sends l j))) c j h)
+          (some-false (periodsOf (l .head .ms)) (λ (j : ℕ). ltb (1500 * l .head .ms) (takes (l .head .gap) (sends l j) + l .head .reserve)) o j h),
+      λ j h. ltb-false 64 (length (sends l j)) (some-false (periodsOf (l .head .ms)) (λ (j : ℕ). ltb 64 (length (sends l j))) c j h),
     )
 
 ending-back : (l : PeriodicList) → Fits l → Few l → ending l [] ≡ right
@@ -65,11 +64,10 @@ ending-back l f g =
 -- ---- the cycles
 cycles-obey : (n : ℕ) (before : List ℕ) (cs : List Cycle) → Shaped n cs → Fresh before (wordsOf cs) → CyclesObey n cs
 cycles-obey n before [] s f = tt
-cycles-obey n before (c ∷ cs) s f =
-    (
-      record { count = s .0; words = fresh-listable before (c .words) (fresh-left before (c .words) (wordsOf cs) f); splits = s .1 },
-      cycles-obey (suc n) (before ++ c .words) cs (s .2) (fresh-right before (c .words) (wordsOf cs) f)
-    )
+cycles-obey n before (c ∷ cs) s f = (
+  record { count = s .0; words = fresh-listable before (c .words) (fresh-left before (c .words) (wordsOf cs) f); splits = s .1 },
+  cycles-obey (suc n) (before ++ c .words) cs (s .2) (fresh-right before (c .words) (wordsOf cs) f),
+)
 
 obey-shaped : (n : ℕ) (cs : List Cycle) → CyclesObey n cs → Shaped n cs
 obey-shaped n [] o = tt
@@ -128,8 +126,7 @@ accepted-obeys s l rest k e =
     cw .bytes-are ∙ ap (λ (x : List ℕ). written (cyclesNumbers (cw .new)) ++ x) (n .0) ∙ append-nil (written (cyclesNumbers (cw .new))) ∙ ap (λ (x : List Cycle). written (cyclesNumbers x)) (sym c) in
     let f : file l ≡ s = sym (hw .0 ∙ ap (headWritten (l .head .ms) (l .head .gap) (l .head .reserve)) b) in
     let fr : Fresh [] (wordsOf (l .cycles)) = subst (λ (x : List Cycle). Fresh [] (wordsOf x)) (sym c) (cw .fresh) in
-    let sh : Shaped 0 (l .cycles) = subst (Shaped 0) (sym c) (cw .shape) in
-    (
+    let sh : Shaped 0 (l .cycles) = subst (Shaped 0) (sym c) (cw .shape) in (
       record {
         size = omega (arith, p .size, ap length f);
         ms = (p .good .ms-low, p .good .ms-high);
@@ -142,7 +139,7 @@ accepted-obeys s l rest k e =
         frames = n .2;
       },
       f,
-      m .0
+      m .0,
     )
 
 pub obeys-accepted : (l : PeriodicList) → Obeys l → accepted (file l) ≡ yes l []
@@ -160,11 +157,10 @@ obeys-accepted l o =
 
 -- "A list is accepted exactly when the rules of document 01 hold"
 pub accepted-exactly : (s : List ℕ) (l : PeriodicList) → Bytes s → (accepted s ≡ yes l [] → Obeys l × (file l ≡ s)) × (Obeys l × (file l ≡ s) → accepted s ≡ yes l [])
-accepted-exactly s l k =
-    (
-      λ e. let p = accepted-obeys s l [] k e in (p .0, p .1),
-      λ p. subst (λ (x : List ℕ). accepted x ≡ yes l []) (p .1) (obeys-accepted l (p .0))
-    )
+accepted-exactly s l k = (
+  λ e. let p = accepted-obeys s l [] k e in (p .0, p .1),
+  λ p. subst (λ (x : List ℕ). accepted x ≡ yes l []) (p .1) (obeys-accepted l (p .0)),
+)
 
 -- only one list is written so
 pub one-list : (l m : PeriodicList) → Obeys l → Obeys m → file l ≡ file m → l ≡ m

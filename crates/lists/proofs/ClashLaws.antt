@@ -92,16 +92,15 @@ fresh-once ws f i j h l p =
 once-from : (before ws : List ℕ) → All Listable ws
     → ((i j : ℕ) → i < j → j < length (before ++ ws) → Clash (getD (before ++ ws) i 0) (getD (before ++ ws) j 0) → ⊥) → Fresh before ws
 once-from before [] a h = tt
-once-from before (w ∷ ws) a h =
-    (
-      prop-listable w (a .0),
-      clash-none w before (λ i q. false-or-true (clash (getD before i 0) w) (λ e.
+once-from before (w ∷ ws) a h = (
+  prop-listable w (a .0),
+  clash-none w before (λ i q. false-or-true (clash (getD before i 0) w) (λ e.
       h i (length before) q (omega (arith, length-append before (w ∷ ws)))
       (subst (λ (x : ℕ). Clash x (getD (before ++ w ∷ ws) (length before) 0)) (sym (List·getD-append before (w ∷ ws) 0 i q))
       (subst (λ (x : ℕ). Clash (getD before i 0) x) (sym (getD-at before w ws 0 (length before) refl)) (clash-prop (getD before i 0) w e))))),
-      once-from (before ++ w ∷ []) ws (a .1)
-      (subst (λ (l : List ℕ). (i j : ℕ) → i < j → j < length l → Clash (getD l i 0) (getD l j 0) → ⊥) (sym (append-assoc before (w ∷ []) ws)) h)
-    )
+  once-from (before ++ w ∷ []) ws (a .1)
+      (subst (λ (l : List ℕ). (i j : ℕ) → i < j → j < length l → Clash (getD l i 0) (getD l j 0) → ⊥) (sym (append-assoc before (w ∷ []) ws)) h),
+)
 
 pub once-fresh : (ws : List ℕ) → All Listable ws → ((i j : ℕ) → i < j → j < length ws → Clash (getD ws i 0) (getD ws j 0) → ⊥) → Fresh [] ws
 once-fresh ws a h = once-from [] ws a h

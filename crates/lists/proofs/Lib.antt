@@ -13,3 +13,4 @@ pub mod ThenLaws
 pub mod WasLaws
 pub mod ClashLaws
 pub mod Acceptance
+pub mod PlainLaws

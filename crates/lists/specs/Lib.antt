@@ -6,3 +6,4 @@ pub mod Accepts
 pub mod Answers
 pub mod Inside
 pub mod Written
+pub mod Plain
