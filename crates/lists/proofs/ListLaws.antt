@@ -95,7 +95,7 @@ more-same most all x r e = go (ltb most x) refl
     go true q = q ∙ sym (lt-ltb all (x + r) (omega (arith, ltb-true most x q)))
     go false q = q ∙ sym (le-ltb all (x + r) (omega (arith, ltb-false most x q)))
 
-cycles-most : (ms : ℕ) → cyclesOf ms ≤ 11
+pub cycles-most : (ms : ℕ) → cyclesOf ms ≤ 11
 cycles-most ms = go (eqb ms 1)
   where
     go : (t : Bool) → byMs t 11 10 ≤ 11

@@ -1,0 +1,3 @@
+pub mod CopyLaws
+pub mod SubcycleLaws
+pub mod PeriodLaws
