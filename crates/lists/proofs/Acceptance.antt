@@ -77,7 +77,7 @@ all-append : (us vs : List ℕ) → All Listable us → All Listable vs → All 
 all-append [] vs a b = b
 all-append (u ∷ us) vs a b = (a .0, all-append us vs (a .1) b)
 
-obey-listable : (n : ℕ) (cs : List Cycle) → CyclesObey n cs → All Listable (wordsOf cs)
+pub obey-listable : (n : ℕ) (cs : List Cycle) → CyclesObey n cs → All Listable (wordsOf cs)
 obey-listable n [] o = tt
 obey-listable n (c ∷ cs) o = all-append (c .words) (wordsOf cs) (o .0 .words) (obey-listable (suc n) cs (o .1))
 

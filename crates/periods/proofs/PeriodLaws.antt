@@ -38,14 +38,14 @@ use Rattle.periods.specs.Period.{periodBy, askedBy}
 use Rattle.periods.specs.Inside.{InSubcycle, IsList, PeriodWords}
 use Rattle.periods.proofs.SubcycleLaws.{in-subcycle}
 
-sent-append : (cs ds : List Cycle) (m j : ℕ) → sentFrom m j (cs ++ ds) ≡ sentFrom m j cs ++ sentFrom (m + length cs) j ds
+pub sent-append : (cs ds : List Cycle) (m j : ℕ) → sentFrom m j (cs ++ ds) ≡ sentFrom m j cs ++ sentFrom (m + length cs) j ds
 sent-append [] ds m j = let e : m ≡ m + 0 = omega arith in ap (λ (k : ℕ). sentFrom k j ds) e
 sent-append (c ∷ cs) ds m j =
     let e : suc m + length cs ≡ m + suc (length cs) = omega arith in
     ap (λ (l : List ℕ). subcycle c (j % 2 ^ m) ++ l) (sent-append cs ds (suc m) j ∙ ap (λ (k : ℕ). sentFrom (suc m) j cs ++ sentFrom k j ds) e)
     ∙ sym (append-assoc (subcycle c (j % 2 ^ m)) (sentFrom (suc m) j cs) (sentFrom (m + suc (length cs)) j ds))
 
-obey-right : (n : ℕ) (cs ds : List Cycle) → CyclesObey n (cs ++ ds) → CyclesObey (n + length cs) ds
+pub obey-right : (n : ℕ) (cs ds : List Cycle) → CyclesObey n (cs ++ ds) → CyclesObey (n + length cs) ds
 obey-right n [] ds o = let e : n ≡ n + 0 = omega arith in subst (λ (k : ℕ). CyclesObey k ds) e o
 obey-right n (c ∷ cs) ds o = let e : suc n + length cs ≡ n + suc (length cs) = omega arith in subst (λ (k : ℕ). CyclesObey k ds) e (obey-right (suc n) cs ds (o .1))
 
