@@ -120,7 +120,7 @@ pub decimal-large : (n : ℕ) → 100 ≤ n → decimal n ≡ (two (n / 100) ++ 
 unfolding decimal
 decimal-large n h = rw (le-ltb n 100 h)
 
-two-few : (n : ℕ) → length (two n) ≤ 2
+pub two-few : (n : ℕ) → length (two n) ≤ 2
 unfolding two
 two-few n = go (ltb n 10)
   where
@@ -142,8 +142,12 @@ field-length n after = length-append (decimal n) (after ∷ [])
 pub header-length : (a b c d : ℕ) → length (headerLine a b c d) ≡ length (field a space) + length (field b space) + length (field c space) + length (field d newline)
 unfolding headerLine
 header-length a b c d =
-    omega (arith, length-append (field a space) (field b space), length-append (field a space ++ field b space) (field c space),
-    length-append ((field a space ++ field b space) ++ field c space) (field d newline))
+    omega (
+      arith,
+      length-append (field a space) (field b space),
+      length-append (field a space ++ field b space) (field c space),
+      length-append ((field a space ++ field b space) ++ field c space) (field d newline),
+    )
 
 pub line-length : (cycle sub w : ℕ) → length (wordLine cycle sub w) ≡ 5 + length (field cycle space) + length (field sub newline)
 unfolding wordLine

@@ -10,7 +10,11 @@ fn digit_of(d: u16) -> u8
     requires { ⌜ d < 16 ⌝ }
     ensures { λ r. ⌜ r ≡ digit d ⌝ }
 {
-    if d < 10 { 48 + (d as u8) } else { 55 + (d as u8) }
+    if d < 10 {
+        48 + (d as u8)
+    } else {
+        55 + (d as u8)
+    }
 }
 
 fn put_byte(out: &mut [u8], at: usize, b: u8, write: bool) -> usize
@@ -79,7 +83,15 @@ fn put_field(out: &mut [u8], at: usize, n: u16, after: u8, write: bool) -> usize
     put_byte(out, p, after, write)
 }
 
-pub(crate) fn put_header(out: &mut [u8], at: usize, ms: u16, gap: u16, reserve: u16, words: u16, write: bool) -> usize
+pub(crate) fn put_header(
+    out: &mut [u8],
+    at: usize,
+    ms: u16,
+    gap: u16,
+    reserve: u16,
+    words: u16,
+    write: bool,
+) -> usize
     requires { ⌜ (ms < 10000) × (gap < 10000) × (reserve < 10000) × (words < 10000) × Fits write at (length (headerLine ms gap reserve words)) (now out) ⌝ }
     ensures { λ r. ⌜ Wrote write at (headerLine ms gap reserve words) (now (out .entry)) (now (out .exit)) r ⌝ }
 {
@@ -90,7 +102,14 @@ pub(crate) fn put_header(out: &mut [u8], at: usize, ms: u16, gap: u16, reserve: 
 }
 
 // A word, its cycle and its Subcycle.
-pub(crate) fn put_line(out: &mut [u8], at: usize, cycle: u16, sub: u16, w: u16, write: bool) -> usize
+pub(crate) fn put_line(
+    out: &mut [u8],
+    at: usize,
+    cycle: u16,
+    sub: u16,
+    w: u16,
+    write: bool,
+) -> usize
     requires { ⌜ (cycle < 10000) × (sub < 10000) × Fits write at (length (wordLine cycle sub w)) (now out) ⌝ }
     ensures { λ r. ⌜ Wrote write at (wordLine cycle sub w) (now (out .entry)) (now (out .exit)) r ⌝ }
 {

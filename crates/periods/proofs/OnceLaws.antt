@@ -199,9 +199,17 @@ module _ (l : PeriodicList) (o : Obeys l) (w : ℕ) (done : List Cycle) (c : Cyc
   here j =
       let e : sends l j ≡ sentFrom 0 j done ++ (subcycle c (j % 2 ^ (0 + length done)) ++ sentFrom (suc (0 + length done)) j todo) = ap (sentFrom 0 j) both ∙ sent-append done (c ∷ todo) 0 j in
       let z : 0 + length done ≡ length done = omega arith in
-      omega (arith, ap (times w) e, times-append w (sentFrom 0 j done) (subcycle c (j % 2 ^ (0 + length done)) ++ sentFrom (suc (0 + length done)) j todo),
-      times-append w (subcycle c (j % 2 ^ (0 + length done))) (sentFrom (suc (0 + length done)) j todo), times-sent w done 0 j, times-sent w todo (suc (0 + length done)) j,
-      words-split, all-words, ap (λ (k : ℕ). times w (subcycle c (j % 2 ^ k))) z)
+      omega (
+        arith,
+        ap (times w) e,
+        times-append w (sentFrom 0 j done) (subcycle c (j % 2 ^ (0 + length done)) ++ sentFrom (suc (0 + length done)) j todo),
+        times-append w (subcycle c (j % 2 ^ (0 + length done))) (sentFrom (suc (0 + length done)) j todo),
+        times-sent w done 0 j,
+        times-sent w todo (suc (0 + length done)) j,
+        words-split,
+        all-words,
+        ap (λ (k : ℕ). times w (subcycle c (j % 2 ^ k))) z,
+      )
 
   period : (x : ℕ) → sentIn l w x ≡ times w (subcycle c (x % 2 ^ n))
   period x =
