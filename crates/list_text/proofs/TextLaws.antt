@@ -5,7 +5,7 @@ use mathlib.Core.Path.{_≡_, refl, ap, sym, _∙_, subst}
 use mathlib.Core.List.{List, [], _∷_, _++_}
 use mathlib.Core.Bool.{Bool, true, false, cond}
 use native.Mathlib.Omega.{arith}
-use borrow.Author.Tests.{lt-ltb, le-ltb, le-leb, lt-leb}
+use borrow.Author.Tests.{le-leb, lt-leb, leb-true}
 use lib.Dec.{ltb, leb}
 use lib.ListN.{length, take, drop, length-append, length-take, length-drop}
 use Rattle.refusals.specs.declared.Refusal.{Refusal}
@@ -233,3 +233,22 @@ module _ (s : List ℕ) (a : ListCheck) (t : toldCheck a ≡ toldRead (accepted 
       let u = told-yes (accepted s) h n (sym (ap toldCheck e) ∙ t) in
       let o = accepted-obeys s (u .l) (u .rest) k (u .is) in
       record { known = record { l = u .l; obeys = o .0; written-so = o .1; same = u .ms }; gap = u .gap; reserve = u .reserve; count = u .count }
+
+-- ---- what a caller may conclude
+-- the bytes written have room
+pub bytes-fit : (s : List ℕ) (room k : ℕ) → gives (k ∷ []) ≡ textBy s room refusal (λ t. gives (length t ∷ [])) → k ≤ room
+unfolding textBy
+bytes-fit s room k e = go (leb (length (textOf (accepted s))) room) refl e
+  where
+    go : (b : Bool) → leb (length (textOf (accepted s))) room ≡ b → gives (k ∷ []) ≡ cond b (gives (length (textOf (accepted s)) ∷ [])) (refusal 4) → k ≤ room
+    go true q e = let i : k ≡ length (textOf (accepted s)) = cc in omega (arith, leb-true (length (textOf (accepted s))) room q)
+    go false q e = let z : _≡_ {A = ℕ} 0 1 = cc in absurd (omega arith)
+
+-- 42,256 bytes always suffice
+pub always-enough : (s : List ℕ) (room : ℕ) → Bytes s → 42256 ≤ room → textBy s room refusal (λ t. gives (length t ∷ [])) ≡ gives (length (textOf (accepted s)) ∷ [])
+unfolding textBy
+always-enough s room k h = rw (le-leb (length (textOf (accepted s))) room (omega (arith, few (accepted s) refl)))
+  where
+    few : (r : Read PeriodicList) → accepted s ≡ r → length (textOf (accepted s)) ≤ 42256
+    few (no n) e = omega (arith, ap (λ (x : Read PeriodicList). length (textOf x)) e, refused-few n)
+    few (yes l rest) e = omega (arith, ap (λ (x : Read PeriodicList). length (textOf x)) e, text-few l (accepted-obeys s l rest k e .0))
