@@ -62,7 +62,7 @@ fits-is s p h =
     let a = and-split (ltb (s .count) 256) _ h in
     let b = and-split (leb (s .next) (p .address)) _ (a .1) in
     let c = and-split (ltb (p .address) 4096) _ (b .1) in
-    record { count = ltb-true _ _ (a .0); low = leb-true _ _ (b .0); high = ltb-true _ _ (c .0); code = ltb-true _ _ (c .1); }
+    record { count = ltb-true _ _ (a .0); low = leb-true _ _ (b .0); high = ltb-true _ _ (c .0); code = ltb-true _ _ (c .1) }
 
 module _ (s : Seen) (p : Port) where
   pub fits-many : 256 ≤ s .count → false ≡ fits s p
