@@ -1,0 +1,4 @@
+pub mod Frames
+pub mod Bytes
+pub mod Marks
+pub mod Order
