@@ -149,8 +149,3 @@ before-missed a (p ∷ ps) qs h = by-cases (eqb (p .address) a)
     (λ t. let z : length (cond (eqb (p .address) a) [] (p ∷ before a ps)) ≡ 0 = simp t in absurd (omega arith))
     (λ f. let z : length (cond (eqb (p .address) a) [] (p ∷ before a ps)) ≡ suc (placeOf a ps) = simp f in
     ap (λ (b : Bool). cond b [] (p ∷ before a (ps ++ qs))) f ∙ ap (λ (l : List Port). p ∷ l) (before-missed a ps qs (omega arith)))
-
-pub get-front : (ps qs : List Port) (i : ℕ) → i < length ps → getD (ps ++ qs) i noPort ≡ getD ps i noPort
-get-front [] qs i h = absurd (omega arith)
-get-front (p ∷ ps) qs zero h = refl
-get-front (p ∷ ps) qs (suc i) h = get-front ps qs i (omega arith)

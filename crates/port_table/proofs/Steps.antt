@@ -8,7 +8,7 @@ use native.Mathlib.Nat.{zero-add}
 use native.Mathlib.Omega.{arith}
 use borrow.Author.Tests.{eq-eqb, ne-eqb, lt-ltb, le-ltb, le-leb, leb-true, ltb-true, ltb-false, eqb-true, not-true, not-false}
 use lib.Dec.{eqb, ltb, leb}
-use lib.ListN.{length, getD, List·getD-eq-default}
+use lib.ListN.{length, getD, List·getD-append, List·getD-eq-default}
 use lib.Seq.{getD-append-seam}
 use Rattle.frames.specs.Rows.{dataBytes}
 use Rattle.port_table.specs.declared.Port.{Port}
@@ -16,7 +16,7 @@ use Rattle.port_table.specs.declared.Place.{Place}
 use Rattle.port_table.specs.declared.Seen.{Seen}
 use Rattle.port_table.specs.Table.{rising, good, portBytes, tableBytes, before, placeOf, offsetOf, portOf, noPort}
 use Rattle.port_table.specs.Seen.{nextFrom, mark, marksFrom, noMarks, emptySeen, goodSeen, seenOf, Walked, fits, placeAfter}
-use Rattle.port_table.proofs.OneMore.{by-cases, and-split, not-both, size-most, bytes-most, bytes-more, length-more, good-split, good-more, bad-more, next-more, marks-more, place-most, before-found, before-missed, get-front}
+use Rattle.port_table.proofs.OneMore.{by-cases, and-split, not-both, size-most, bytes-most, bytes-more, length-more, good-split, good-more, bad-more, next-more, marks-more, place-most, before-found, before-missed}
 
 -- ---- what a walk shows
 
@@ -106,7 +106,7 @@ place-more a ps p = by-cases (ltb (placeOf a ps) (length ps)) found (λ m. by-ca
     found t =
         let i : placeOf a ps < length ps = ltb-true (placeOf a ps) (length ps) t in
         sym (place-kept (goodSeen a ps) p (portBytes p) a i)
-        ∙ ap₂ placeAt (sym (before-found a ps (p ∷ []) i)) (sym (get-front ps (p ∷ []) (placeOf a ps) i) ∙ ap (λ (l : List Port). getD (ps ++ p ∷ []) (length l) noPort) (sym (before-found a ps (p ∷ []) i)))
+        ∙ ap₂ placeAt (sym (before-found a ps (p ∷ []) i)) (sym (List·getD-append ps (p ∷ []) noPort (placeOf a ps) i) ∙ ap (λ (l : List Port). getD (ps ++ p ∷ []) (length l) noPort) (sym (before-found a ps (p ∷ []) i)))
 
     here : ltb (placeOf a ps) (length ps) ≡ false → eqb (p .address) a ≡ true → placeAfter (goodSeen a ps) p (portBytes p) a ≡ goodSeen a (ps ++ p ∷ []) .place
     here m t =

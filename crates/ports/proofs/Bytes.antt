@@ -6,8 +6,8 @@ use Prim.Native.Nat.{ℕ, _+_, _-_, _≤_, _<_}
 use native.Mathlib.Omega.{arith}
 use borrow.Rule.Slice.PartMut.{putMid}
 use mathlib.Core.Bool.{not, false}
-use lib.ListN.{length, length-take, take, drop, length-drop, drop-of-length-le}
-use lib.Seq.{take-all, take-length, drop-drop, length-take-le}
+use lib.ListN.{length, length-take, length-append, getD, take, drop, length-drop, drop-of-length-le, List·getD-append}
+use lib.Seq.{take-all, take-length, take-at, drop-at, drop-drop, length-take-le, getD-take, getD-drop, getD-append-add}
 use Rattle.frames.specs.Rows.{dataBytes}
 use Rattle.port_table.specs.declared.Seen.{Seen}
 use Rattle.port_table.specs.Seen.{Walked}
@@ -52,3 +52,30 @@ pub place-small : (s : Seen) (a : ℕ) → Walked s a → not (s .good) ≡ fals
 place-small s a (ps, e) g h n k =
     let z = shown s a ps e g in
     port-within s a (ps, e) g h 8192 (subst (λ (t : Seen). t .bytes ≤ 8192) (sym (z .1)) (omega (arith, bytes-most ps, good-split ps (z .0) .0))) n k
+
+-- ---- bytes replaced
+
+module _ (o : ℕ) (new store : List ℕ) (h : o + length new ≤ length store) where
+  front-length : length (take o store) ≡ o
+  front-length = length-take-le o store (omega arith)
+
+  pub replaced-length : length (replaced o new store) ≡ length store
+  unfolding replaced
+  replaced-length = omega (arith, length-append (take o store) (new ++ drop (o + length new) store), length-append new (drop (o + length new) store), length-drop (o + length new) store, front-length)
+
+  pub replaced-own : take (length new) (drop o (replaced o new store)) ≡ new
+  unfolding replaced
+  replaced-own = ap (take (length new)) (drop-at (take o store) (new ++ drop (o + length new) store) o front-length) ∙ take-at new (drop (o + length new) store) (length new) refl
+
+  pub replaced-before : (i : ℕ) → i < o → getD (replaced o new store) i 0 ≡ getD store i 0
+  unfolding replaced
+  replaced-before i k = List·getD-append (take o store) (new ++ drop (o + length new) store) 0 i (omega (arith, front-length)) ∙ getD-take o store i 0 k
+
+  pub replaced-after : (i : ℕ) → o + length new ≤ i → getD (replaced o new store) i 0 ≡ getD store i 0
+  unfolding replaced
+  replaced-after i k =
+      ap (λ (j : ℕ). getD (take o store ++ (new ++ drop (o + length new) store)) j 0) (let e : i ≡ length (take o store) + (length new + (i - (o + length new))) = omega (arith, front-length) in e)
+      ∙ getD-append-add (take o store) (new ++ drop (o + length new) store) (length new + (i - (o + length new))) 0
+      ∙ getD-append-add new (drop (o + length new) store) (i - (o + length new)) 0
+      ∙ getD-drop (o + length new) store (i - (o + length new)) 0
+      ∙ ap (λ (j : ℕ). getD store j 0) (let e : o + length new + (i - (o + length new)) ≡ i = omega arith in e)
