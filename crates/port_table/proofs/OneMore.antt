@@ -33,6 +33,10 @@ and-true false = refl
 pub not-both : {b : Bool} {X : Type 0} → b ≡ true → b ≡ false → X
 not-both t f = absurd (mathlib.Core.Bool.false≢true (sym f ∙ t))
 
+-- four numbers, each by itself
+pub four : {a b c d a' b' c' d' : ℕ} → a ≡ a' → b ≡ b' → c ≡ c' → d ≡ d' → a ∷ b ∷ c ∷ d ∷ [] ≡ a' ∷ b' ∷ c' ∷ d' ∷ []
+four p q r s = ap₂ _∷_ p (ap₂ _∷_ q (ap₂ _∷_ r (ap₂ _∷_ s refl)))
+
 -- ---- sizes
 
 pub size-most : (f : ℕ) → dataBytes f ≤ 32
@@ -117,11 +121,10 @@ unfolding nextFrom
 next-more low [] p = refl
 next-more low (q ∷ ps) p = next-more (q .address + 1) ps p
 
-pub marks-more : (m : List ℕ) (i : ℕ) (ps : List Port) (p : Port) → marksFrom m i (ps ++ p ∷ []) ≡ mark (marksFrom m i ps) (i + length ps) (p .sink)
+pub marks-more : (m : List ℕ) (ps : List Port) (p : Port) → marksFrom m (ps ++ p ∷ []) ≡ mark (marksFrom m ps) (p .sink)
 unfolding marksFrom
-marks-more m i [] p = ap (λ (j : ℕ). mark m j (p .sink)) (sym (add-zero i))
-marks-more m i (q ∷ ps) p =
-    marks-more (mark m i (q .sink)) (i + 1) ps p ∙ ap (λ (j : ℕ). mark (marksFrom (mark m i (q .sink)) (i + 1) ps) j (p .sink)) (let e : i + 1 + length ps ≡ i + suc (length ps) = omega arith in e)
+marks-more m [] p = refl
+marks-more m (q ∷ ps) p = marks-more (mark m (q .sink)) ps p
 
 -- ---- the place of a port
 

@@ -4,7 +4,6 @@ use mathlib.Core.Path.{_≡_, refl, sym, ap, ap₂, _∙_, subst}
 use mathlib.Core.Bool.{Bool, true, false, not, cond, _&&_}
 use mathlib.Core.List.{List, [], _∷_, _++_, append-nil}
 use Prim.Native.Nat.{ℕ, zero, suc, _+_, _*_, _/_, _≤_, _<_}
-use native.Mathlib.Nat.{zero-add}
 use native.Mathlib.Omega.{arith}
 use borrow.Author.Tests.{eq-eqb, ne-eqb, lt-ltb, le-ltb, le-leb, leb-true, ltb-true, ltb-false, eqb-true, not-true, not-false}
 use lib.Dec.{eqb, ltb, leb}
@@ -137,13 +136,13 @@ module _ (s : Seen) (p : Port) (a : ℕ) (ps : List Port) (e : s ≡ seenOf a ps
     pub turns-bad : not (fits s p) ≡ true → emptySeen false ≡ seenOf a (ps ++ p ∷ [])
     turns-bad f = sym (seen-bad a (ps ++ p ∷ []) (sym after ∙ not-true (fits s p) f))
 
-    pub goes-on : not (fits s p) ≡ false → (size : ℕ) (place : Place) (marks : List ℕ) → size ≡ portBytes p → place ≡ placeAfter s p size a → marks ≡ mark (s .marks) (s .count) (p .sink)
+    pub goes-on : not (fits s p) ≡ false → (size : ℕ) (place : Place) (marks : List ℕ) → size ≡ portBytes p → place ≡ placeAfter s p size a → marks ≡ mark (s .marks) (p .sink)
         → _≡_ {A = Seen} (record { good = true; next = p .address + 1; count = s .count + 1; bytes = s .bytes + size; place = place; marks = marks }) (seenOf a (ps ++ p ∷ []))
     goes-on f size place marks h k m =
         let z : s ≡ goodSeen a ps = shown s a ps e g .1 in
         λ i. sum z h k m (not-false (fits s p) f) i
       where
-        sum : s ≡ goodSeen a ps → size ≡ portBytes p → place ≡ placeAfter s p size a → marks ≡ mark (s .marks) (s .count) (p .sink) → fits s p ≡ true
+        sum : s ≡ goodSeen a ps → size ≡ portBytes p → place ≡ placeAfter s p size a → marks ≡ mark (s .marks) (p .sink) → fits s p ≡ true
             → _≡_ {A = Seen} (record { good = true; next = p .address + 1; count = s .count + 1; bytes = s .bytes + size; place = place; marks = marks }) (seenOf a (ps ++ p ∷ []))
         sum z h k m f =
             (λ i. record {
@@ -152,6 +151,6 @@ module _ (s : Seen) (p : Port) (a : ℕ) (ps : List Port) (e : s ≡ seenOf a ps
               count = (ap (λ (t : Seen). t .count + 1) z ∙ sym (length-more ps p)) i;
               bytes = (ap₂ (λ (t : Seen) (n : ℕ). t .bytes + n) z h ∙ sym (bytes-more ps p)) i;
               place = (k ∙ ap₂ (λ (t : Seen) (n : ℕ). placeAfter t p n a) z h ∙ place-more a ps p) i;
-              marks = (m ∙ ap (λ (t : Seen). mark (t .marks) (t .count) (p .sink)) z ∙ ap (λ (n : ℕ). mark (marksFrom noMarks 0 ps) n (p .sink)) (sym (zero-add (length ps))) ∙ sym (marks-more noMarks 0 ps p)) i;
+              marks = (m ∙ ap (λ (t : Seen). mark (t .marks) (p .sink)) z ∙ sym (marks-more noMarks ps p)) i;
             })
             ∙ sym (seen-good a (ps ++ p ∷ []) (sym after ∙ f))

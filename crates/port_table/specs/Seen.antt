@@ -5,7 +5,7 @@ use mathlib.Core.Bool.{Bool, true, false, cond, _&&_}
 use mathlib.Core.List.{List, [], _∷_, _++_}
 use Prim.Native.Nat.{ℕ, _+_, _*_, _/_, _%_, _^_}
 use lib.Dec.{eqb, ltb, leb}
-use lib.ListN.{length, getD, set}
+use lib.ListN.{length, getD}
 use Rattle.port_table.specs.declared.Port.{Port}
 use Rattle.port_table.specs.declared.Place.{Place}
 use Rattle.port_table.specs.declared.Seen.{Seen}
@@ -16,16 +16,25 @@ unfoldable pub nextFrom : ℕ → List Port → ℕ
 nextFrom low [] = low
 nextFrom low (p ∷ ps) = nextFrom (p .address + 1) ps
 
--- the marks with one record more, at a place: 64 records to a number, the newest in its lowest bit, 1 for a sink
-abbrev pub mark : List ℕ → ℕ → ℕ → List ℕ
-mark m i sink = set m (i / 64) (getD m (i / 64) 0 % 2 ^ 63 * 2 + cond (eqb sink 0) 0 1)
+-- 1 for a sink
+abbrev pub markOf : ℕ → ℕ
+markOf sink = cond (eqb sink 0) 0 1
 
--- the marks with all records from a place on
-unfoldable pub marksFrom : List ℕ → ℕ → List Port → List ℕ
-marksFrom m i [] = m
-marksFrom m i (p ∷ ps) = marksFrom (mark m i (p .sink)) (i + 1) ps
+-- the marks of sinks are one number of 256 bits, 64 to a part, the newest record in its lowest bit: one record more
+abbrev pub mark : List ℕ → ℕ → List ℕ
+mark m sink =
+    (getD m 0 0 % 2 ^ 63 * 2 + markOf sink)
+    ∷ (getD m 1 0 % 2 ^ 63 * 2 + getD m 0 0 / 2 ^ 63)
+    ∷ (getD m 2 0 % 2 ^ 63 * 2 + getD m 1 0 / 2 ^ 63)
+    ∷ (getD m 3 0 % 2 ^ 63 * 2 + getD m 2 0 / 2 ^ 63)
+    ∷ []
 
--- four numbers without a mark
+-- all records more
+unfoldable pub marksFrom : List ℕ → List Port → List ℕ
+marksFrom m [] = m
+marksFrom m (p ∷ ps) = marksFrom (mark m (p .sink)) ps
+
+-- no mark at all
 abbrev pub noMarks : List ℕ
 noMarks = 0 ∷ 0 ∷ 0 ∷ 0 ∷ []
 
@@ -45,7 +54,7 @@ goodSeen a ps = record {
   count = length ps;
   bytes = tableBytes ps;
   place = record { at = placeOf a ps; offset = offsetOf a ps; «f_code» = portOf a ps .«f_code»; sink = portOf a ps .sink };
-  marks = marksFrom noMarks 0 ps;
+  marks = marksFrom noMarks ps;
 }
 
 -- what a walk shows

@@ -2,8 +2,8 @@
 -- Assumes nothing.
 use mathlib.Core.Path.{_≡_}
 use mathlib.Core.Bool.{cond}
-use mathlib.Core.List.{List}
-use Prim.Native.Nat.{ℕ, zero, suc, _/_, _%_}
+use mathlib.Core.List.{List, [], _∷_}
+use Prim.Native.Nat.{ℕ, zero, suc, _+_, _*_, _/_, _%_, _^_}
 use lib.Dec.{eqb}
 use lib.ListN.{getD, set}
 use Rattle.refusals.specs.Codes.{toldCode}
@@ -49,7 +49,16 @@ Ticked s ages r ages' = (a : ℕ) (ps : List Port) → s ≡ seenOf a ps → (to
 abbrev pub olderBy : ℕ → ℕ → ℕ
 olderBy mark age = cond (eqb mark 0) age (older age)
 
+-- the marks without the newest: 256 bits, one down
+abbrev pub unmark : List ℕ → List ℕ
+unmark m =
+    (getD m 0 0 / 2 + getD m 1 0 % 2 * 2 ^ 63)
+    ∷ (getD m 1 0 / 2 + getD m 2 0 % 2 * 2 ^ 63)
+    ∷ (getD m 2 0 / 2 + getD m 3 0 % 2 * 2 ^ 63)
+    ∷ (getD m 3 0 / 2)
+    ∷ []
+
 -- the ages by marks, from the last of so many records to the first
 unfoldable pub agedDown : ℕ → List ℕ → List ℕ → List ℕ
 agedDown zero m ages = ages
-agedDown (suc i) m ages = agedDown i (set m (i / 64) (getD m (i / 64) 0 / 2)) (set ages i (olderBy (getD m (i / 64) 0 % 2) (getD ages i 0)))
+agedDown (suc i) m ages = agedDown i (unmark m) (set ages i (olderBy (getD m 0 0 % 2) (getD ages i 0)))

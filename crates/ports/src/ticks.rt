@@ -2,11 +2,9 @@
 use port_table::Seen;
 use refusals::Refusal;
 ghost use mathlib.Core.Path.{_≡_};
-ghost use mathlib.Core.Bool.{cond};
-ghost use Prim.Native.Nat.{_+_, _≤_, min};
-ghost use lib.Dec.{eqb};
+ghost use Prim.Native.Nat.{_+_, _*_, _/_, _%_, _^_, _≤_};
 ghost use lib.ListN.{length};
-ghost use Rattle.ports.specs.Shown.{Ticked, Showed, agedDown, olderBy};
+ghost use Rattle.ports.specs.Shown.{Ticked, Showed, agedDown, olderBy, unmark};
 
 fn older(mark: u64, age: u16) -> u16
     ensures { λ r. ⌜ r ≡ olderBy mark age ⌝ }
@@ -17,19 +15,35 @@ fn older(mark: u64, age: u16) -> u16
     if age < 65535 { age + 1 } else { age }
 }
 
-// From the last record to the first: its mark is the lowest bit of its number then.
+fn down(part: u64, above: u64) -> u64
+    ensures { λ r. ⌜ r ≡ part / 2 + above % 2 * 2 ^ 63 ⌝ }
+{
+    part / 2 + above % 2 * 9223372036854775808
+}
+
+// The marks without the newest.
+fn unmarked(marks: [u64; 4]) -> [u64; 4]
+    ensures { λ r. ⌜ r ≡ unmark marks ⌝ }
+{
+    let a = down(marks[0], marks[1]);
+    let b = down(marks[1], marks[2]);
+    let c = down(marks[2], marks[3]);
+    let d = marks[3] / 2;
+    [a, b, c, d]
+}
+
+// From the last record to the first: its mark is the lowest bit then.
 fn age_all(count: usize, marks: [u64; 4], ages: &mut [u16])
-    requires { ⌜ (count ≤ 256) × (count ≤ length (now ages)) ⌝ }
+    requires { ⌜ count ≤ length (now ages) ⌝ }
     ensures { λ _. ⌜ now (ages .exit) ≡ agedDown count marks (now (ages .entry)) ⌝ }
 {
     let mut left = marks;
     let mut i = count;
     while 0 < i {
         i -= 1;
-        let word = i / 64;
-        let mark = left[word];
-        ages[i] = older(mark % 2, ages[i]);
-        left[word] = mark / 2;
+        ages[i] = older(left[0] % 2, ages[i]);
+        let next = unmarked(left);
+        left = next;
     }
 }
 

@@ -62,7 +62,7 @@ step-spec =
     returns-2
     (λ c κs. fit c .code)
     place-after-requires
-    (λ c κs. fit (c .before .before .before) .count)
+    (λ c κs. search needs)
     (λ c. omega (arith, fit (c .before .before .before .before .before) .high))
     (λ c. omega (arith, fit (c .before .before .before .before .before .before) .count))
     add-t13

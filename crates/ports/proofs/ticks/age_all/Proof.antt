@@ -6,7 +6,7 @@ use Prim.Native.Nat.{ℕ, zero, suc, _+_, _-_, _/_, _%_, _≤_, _<_}
 use native.Mathlib.Omega.{arith}
 use lib.ListN.{length, getD, set, length-set}
 use borrow.Author.Needs.{needs}
-use Rattle.ports.specs.Shown.{agedDown, olderBy}
+use Rattle.ports.specs.Shown.{agedDown, olderBy, unmark}
 use Rattle.ports.proofs.ticks.age_all.Statement.{statement}
 use Rattle.ports.proofs.ticks.age_all.Tie as tie
 
@@ -17,11 +17,14 @@ Inv-loop count ages₀ marks i₀ ages left i = (i ≤ count) × (length ages �
 abbrev μ-loop : tie.MeasureT-loop
 μ-loop count ages₀ marks i₀ ages left i = i
 
-turn : (i : ℕ) (left ages : List ℕ) (age : ℕ) → 0 < i → age ≡ olderBy (getD left ((i - 1) / 64) 0 % 2) (getD ages (i - 1) 0)
-    → agedDown (i - 1) (set left ((i - 1) / 64) (getD left ((i - 1) / 64) 0 / 2)) (set ages (i - 1) age) ≡ agedDown i left ages
+turn : (i : ℕ) (left next ages : List ℕ) (age : ℕ) → 0 < i → age ≡ olderBy (getD left 0 0 % 2) (getD ages (i - 1) 0) → next ≡ unmark left
+    → agedDown (i - 1) next (set ages (i - 1) age) ≡ agedDown i left ages
 unfolding agedDown
-turn zero left ages age h e = absurd (omega arith)
-turn (suc i) left ages age h e = ap₂ (λ (j a : ℕ). agedDown j (set left (j / 64) (getD left (j / 64) 0 / 2)) (set ages j a)) (let d : suc i - 1 ≡ i = omega arith in d) (e ∙ ap (λ (j : ℕ). olderBy (getD left (j / 64) 0 % 2) (getD ages j 0)) (let d : suc i - 1 ≡ i = omega arith in d))
+turn zero left next ages age h e u = absurd (omega arith)
+turn (suc i) left next ages age h e u =
+    let d : suc i - 1 ≡ i = omega arith in
+    ap₂ (λ (j a : ℕ). agedDown j next (set ages j a)) d (e ∙ ap (λ (j : ℕ). olderBy (getD left 0 0 % 2) (getD ages j 0)) d)
+    ∙ ap (λ (l : List ℕ). agedDown i l (set ages i (olderBy (getD left 0 0 % 2) (getD ages i 0)))) u
 
 stays : (ages : List ℕ) (i age n : ℕ) → length ages ≡ n → length (set ages i age) ≡ n
 stays ages i age n e = length-set ages i age ∙ e
@@ -33,9 +36,9 @@ ended (suc i) left ages h = absurd (omega arith)
 
 loop-again : tie.Need-loop-again Inv-loop μ-loop
 loop-again c =
-    let here : tie.At-loop Inv-loop μ-loop = c .before .before .before in
+    let here : tie.At-loop Inv-loop μ-loop = c .before .before .before .before in
     let inv = here .loop .inv in
-    (omega (arith, inv .0), stays (here .loop .ages) _ _ _ (inv .1), turn _ _ _ _ (c .before .before .loop-test .taken) (c .older .ensures) ∙ inv .2)
+    (omega (arith, inv .0), stays (here .loop .ages) _ _ _ (inv .1), turn _ _ _ _ _ (c .before .before .before .loop-test .taken) (c .before .older .ensures) (c .unmarked .ensures) ∙ inv .2)
 
 returns : tie.Need-returns Inv-loop μ-loop
 returns c = sym (ended (c .before .loop .i) (c .before .loop .left) (c .before .loop .ages) (omega arith)) ∙ c .before .loop .inv .2
@@ -48,15 +51,13 @@ age-all-spec =
     μ-loop
     (λ c. (omega arith, refl, refl))
     (λ c. search needs)
-    (λ c. omega (arith, c .before .before .before .pre .0))
-    (λ c. omega (arith, c .before .before .before .pre .0))
-    (λ c. omega (arith, c .before .before .before .pre .0))
-    (λ c. omega (arith, c .before .before .before .before .pre .1))
+    (λ c. search needs)
+    (λ c. search needs)
+    (λ c. omega (arith, c .before .before .before .before .pre))
     (λ c κs. search needs)
-    (λ c. omega (arith, c .before .before .before .before .before .pre .0))
-    (λ c. omega (arith, c .before .before .before .before .before .pre .1))
-    (λ c. omega (arith, c .before .before .before .before .before .pre .0))
-    (λ c. omega (arith, c .before .before .before .before .before .pre .0))
+    (λ c. search needs)
+    (λ c. omega (arith, c .before .before .before .before .before .pre))
+    (λ c κs. search needs)
     (λ c. omega arith)
     loop-again
     (λ c. c .before .loop .inv .1)

@@ -2,7 +2,7 @@
 -- Assumes nothing.
 use mathlib.Core.Path.{refl}
 use borrow.Author.Needs.{needs}
-use Rattle.ports.proofs.Order.{tick-13, tick-4, tick-done, few}
+use Rattle.ports.proofs.Order.{tick-13, tick-4, tick-done}
 use Rattle.ports.proofs.ticks.tick.Statement.{statement}
 use Rattle.ports.proofs.ticks.tick.Tie as tie
 
@@ -20,9 +20,7 @@ returns-2 c =
 age-all-requires : tie.Need-age-all-requires
 age-all-requires c κs =
     let k2 : tie.Else2 = c .before .before in
-    let k1 : tie.Else1 = k2 .before .before in
-    let s : tie.Start = k1 .before .before in
-    (few (s .args .seen) (s .pre) (k1 .if1 .left), k2 .if2 .left)
+    k2 .if2 .left
 
 returns-3 : tie.Need-returns-3
 returns-3 c =
