@@ -12,7 +12,10 @@ fn older(mark: u64, age: u16) -> u16
     if mark == 0 {
         return age;
     }
-    if age < 65535 { age + 1 } else { age }
+    if 65535 <= age {
+        return 65535;
+    }
+    age + 1
 }
 
 fn down(part: u64, above: u64) -> u64

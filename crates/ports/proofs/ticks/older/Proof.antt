@@ -22,6 +22,6 @@ older-spec =
     tie.close
     (tie.spec
     (λ c. source _ _ (c .if1 .taken))
-    (λ c. search needs)
     (λ c. sinks _ _ _ (c .before .if1 .left) (omega arith))
+    (λ c. search needs)
     (λ c. sinks _ _ _ (c .before .if1 .left) (omega arith)))
