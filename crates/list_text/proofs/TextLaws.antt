@@ -16,7 +16,7 @@ use Rattle.lists.specs.declared.Header.{Header}
 use Rattle.lists.specs.declared.ListCheck.{ListCheck}
 use Rattle.lists.specs.declared.ListCheck.the-variants.{Accepted, Refused}
 use Rattle.lists.specs.Values.{Cycle, PeriodicList, cyclesOf, wordsOf}
-use Rattle.lists.specs.Reading.{Read, no, yes}
+use Rattle.lists.specs.Reading.{Read, denied, took}
 use Rattle.lists.specs.Sends.{cutBy, subcycles}
 use Rattle.lists.specs.Accepts.{accepted}
 use Rattle.lists.specs.Answers.{toldCheck, toldRead}
@@ -72,7 +72,7 @@ decimal-three n h = go (ltb n 100)
     go false = omega (arith, top, length-append (two (n / 100)) (digit (n / 10 % 10) ∷ []), length-append (two (n / 100) ++ digit (n / 10 % 10) ∷ []) (digit (n % 10) ∷ []))
 
 -- "a proved number of bytes that always suffices"
-pub text-few : (l : PeriodicList) → Obeys l → length (textOf (yes l [])) ≤ 42256
+pub text-few : (l : PeriodicList) → Obeys l → length (textOf (took l [])) ≤ 42256
 text-few l o =
     let h : Header = l .head in
     let w : ℕ = length (wordsOf (l .cycles)) in
@@ -106,11 +106,11 @@ module _ (s : List ℕ) (h : Header) (words : ℕ) (k : ListHere s h words) (wri
       ap (λ (x : ℕ). headerLine x (h .gap) (h .reserve) words) (k .known .same) ∙ ap (λ (x : ℕ). headerLine (l .head .ms) x (h .reserve) words) (k .gap)
       ∙ ap (λ (x : ℕ). headerLine (l .head .ms) (l .head .gap) x words) (k .reserve) ∙ ap (headerLine (l .head .ms) (l .head .gap) (l .head .reserve)) (k .count)
 
-  all-fits : Fits write 0 (length (textOf (yes l []))) out
+  all-fits : Fits write 0 (length (textOf (took l []))) out
   unfolding l
   all-fits = f (k .known .l) (k .known .obeys) (k .known .written-so)
 
-  text-length : length (textOf (yes l [])) ≡ length (headerLine (h .ms) (h .gap) (h .reserve) words) + length (cycleLines 0 (l .cycles))
+  text-length : length (textOf (took l [])) ≡ length (headerLine (h .ms) (h .gap) (h .reserve) words) + length (cycleLines 0 (l .cycles))
   unfolding l
   text-length = length-append (headerLine (l .head .ms) (l .head .gap) (l .head .reserve) (length (wordsOf (l .cycles)))) (cycleLines 0 (l .cycles))
       ∙ ap (λ (x : List ℕ). length x + length (cycleLines 0 (l .cycles))) (sym same-header)
@@ -126,7 +126,7 @@ module _ (s : List ℕ) (h : Header) (words : ℕ) (k : ListHere s h words) (wri
         omega (arith, k .gap, o .gap .1),
         omega (arith, k .reserve, o .reserve .1, o .ms .1),
         omega (arith, words-small),
-        fits-part write 0 (length (textOf (yes l []))) out all-fits 0 0 (length (headerLine (h .ms) (h .gap) (h .reserve) words)) out (omega arith) (omega (arith, text-length)) refl,
+        fits-part write 0 (length (textOf (took l []))) out all-fits 0 0 (length (headerLine (h .ms) (h .gap) (h .reserve) words)) out (omega arith) (omega (arith, text-length)) refl,
       )
 
   module _ (out₁ : List ℕ) (a : ℕ) (w : Wrote write 0 (headerLine (h .ms) (h .gap) (h .reserve) words) out out₁ a) (e : length out₁ ≡ length out) where
@@ -135,7 +135,7 @@ module _ (s : List ℕ) (h : Header) (words : ℕ) (k : ListHere s h words) (wri
     cycles-asked =
         record {
           known = k .known;
-          fits = fits-part write 0 (length (textOf (yes l []))) out all-fits a (length (headerLine (h .ms) (h .gap) (h .reserve) words)) (length (cycleLines 0 (l .cycles))) out₁ (w .next) (omega (arith, text-length)) e;
+          fits = fits-part write 0 (length (textOf (took l []))) out all-fits a (length (headerLine (h .ms) (h .gap) (h .reserve) words)) (length (cycleLines 0 (l .cycles))) out₁ (w .next) (omega (arith, text-length)) e;
         }
 
     pub text-done : (out₂ : List ℕ) (r : ℕ) → CyclesWrote write s a out₁ out₂ r → TextWrote write s out out₂ r
@@ -143,9 +143,9 @@ module _ (s : List ℕ) (h : Header) (words : ℕ) (k : ListHere s h words) (wri
     text-done out₂ r c m o q =
         let x : l ≡ m = one-list l m (k .known .obeys) o (k .known .written-so ∙ sym q) in
         let y : Wrote write 0 (headerLine (h .ms) (h .gap) (h .reserve) words ++ cycleLines 0 (l .cycles)) out out₂ r =
-        and-then write 0 (headerLine (h .ms) (h .gap) (h .reserve) words) (cycleLines 0 (l .cycles)) out out₁ out₂ a r (length (textOf (yes l []))) all-fits w (c l (k .known .obeys) (k .known .written-so)) in
-        subst (λ (z : PeriodicList). Wrote write 0 (textOf (yes z [])) out out₂ r) x
-        (as-bytes write 0 (headerLine (h .ms) (h .gap) (h .reserve) words ++ cycleLines 0 (l .cycles)) (textOf (yes l [])) out out₂ r (ap (λ (u : List ℕ). u ++ cycleLines 0 (l .cycles)) same-header) y)
+        and-then write 0 (headerLine (h .ms) (h .gap) (h .reserve) words) (cycleLines 0 (l .cycles)) out out₁ out₂ a r (length (textOf (took l []))) all-fits w (c l (k .known .obeys) (k .known .written-so)) in
+        subst (λ (z : PeriodicList). Wrote write 0 (textOf (took z [])) out out₂ r) x
+        (as-bytes write 0 (headerLine (h .ms) (h .gap) (h .reserve) words ++ cycleLines 0 (l .cycles)) (textOf (took l [])) out out₂ r (ap (λ (u : List ℕ). u ++ cycleLines 0 (l .cycles)) same-header) y)
 
 -- ---- asking for the text
 abbrev pub Answer : List ℕ → List ℕ → Told → List ℕ → Type 0
@@ -192,40 +192,40 @@ pub refused-writes : (n : ℕ) (out out' : List ℕ) (k : ℕ) → Wrote false 0
 refused-writes n out out' k w h = writes (length (refusedLine n)) out' (omega (arith, refused-few n)) (omega (arith, w .next))
 
 pub list-counts : (s out : List ℕ) → TextFits false s out
-list-counts s out l o q = counts (length (textOf (yes l []))) out (omega (arith, text-few l o))
+list-counts s out l o q = counts (length (textOf (took l []))) out (omega (arith, text-few l o))
 
 module _ (s : List ℕ) (h : Header) (words : ℕ) (k : ListHere s h words) (out out₁ : List ℕ) (m : ℕ) (w : TextWrote false s out out₁ m) where
-  pub the-count : m ≡ length (textOf (yes (k .known .l) []))
+  pub the-count : m ≡ length (textOf (took (k .known .l) []))
   the-count = omega (arith, w (k .known .l) (k .known .obeys) (k .known .written-so) .next)
 
   pub list-writes : m ≤ length out₁ → TextFits true s out₁
   list-writes l p o q =
       let x : k .known .l ≡ p = one-list (k .known .l) p (k .known .obeys) o (k .known .written-so ∙ sym q) in
-      writes (length (textOf (yes p []))) out₁ (omega (arith, text-few p o)) (omega (arith, the-count, ap (λ (z : PeriodicList). length (textOf (yes z []))) x))
+      writes (length (textOf (took p []))) out₁ (omega (arith, text-few p o)) (omega (arith, the-count, ap (λ (z : PeriodicList). length (textOf (took z []))) x))
 
-pub is-accepted : (s : List ℕ) (h : Header) (words : ℕ) (k : ListHere s h words) → accepted s ≡ yes (k .known .l) []
-is-accepted s h words k = subst (λ (x : List ℕ). accepted x ≡ yes (k .known .l) []) (k .known .written-so) (obeys-accepted (k .known .l) (k .known .obeys))
+pub is-accepted : (s : List ℕ) (h : Header) (words : ℕ) (k : ListHere s h words) → accepted s ≡ took (k .known .l) []
+is-accepted s h words k = subst (λ (x : List ℕ). accepted x ≡ took (k .known .l) []) (k .known .written-so) (obeys-accepted (k .known .l) (k .known .obeys))
 
 -- ---- what the check of the list tells
-told-no : (r : Read PeriodicList) (m : Refusal) → refusing m ≡ toldRead r → r ≡ no (numberOf m)
-told-no (no n) m e = ap no (cc)
-told-no (yes l rest) m e = let z : _≡_ {A = ℕ} 0 1 = cc in absurd (omega arith)
+told-no : (r : Read PeriodicList) (m : Refusal) → refusing m ≡ toldRead r → r ≡ denied (numberOf m)
+told-no (denied n) m e = ap denied (cc)
+told-no (took l rest) m e = let z : _≡_ {A = ℕ} 0 1 = cc in absurd (omega arith)
 
 record Same (r : Read PeriodicList) (h : Header) (n : ℕ) : Type 0 where
   pub l : PeriodicList
   pub rest : List ℕ
-  pub is : r ≡ yes l rest
+  pub is : r ≡ took l rest
   pub ms : h .ms ≡ l .head .ms
   pub gap : h .gap ≡ l .head .gap
   pub reserve : h .reserve ≡ l .head .reserve
   pub count : n ≡ length (wordsOf (l .cycles))
 
 told-yes : (r : Read PeriodicList) (h : Header) (n : ℕ) → toldCheck (Accepted h n) ≡ toldRead r → Same r h n
-told-yes (no m) h n e = let z : _≡_ {A = ℕ} 0 1 = cc in absurd (omega arith)
-told-yes (yes l rest) h n e = record { l = l; rest = rest; is = refl; ms = cc; gap = cc; reserve = cc; count = cc }
+told-yes (denied m) h n e = let z : _≡_ {A = ℕ} 0 1 = cc in absurd (omega arith)
+told-yes (took l rest) h n e = record { l = l; rest = rest; is = refl; ms = cc; gap = cc; reserve = cc; count = cc }
 
 module _ (s : List ℕ) (a : ListCheck) (t : toldCheck a ≡ toldRead (accepted s)) where
-  pub not-accepted : (m : Refusal) → a ≡ Refused m → accepted s ≡ no (numberOf m)
+  pub not-accepted : (m : Refusal) → a ≡ Refused m → accepted s ≡ denied (numberOf m)
   not-accepted m e = told-no (accepted s) m (sym (ap toldCheck e) ∙ t)
 
   pub list-here : Bytes s → (h : Header) (n : ℕ) → a ≡ Accepted h n → ListHere s h n
@@ -250,5 +250,5 @@ unfolding textBy
 always-enough s room k h = rw (le-leb (length (textOf (accepted s))) room (omega (arith, few (accepted s) refl)))
   where
     few : (r : Read PeriodicList) → accepted s ≡ r → length (textOf (accepted s)) ≤ 42256
-    few (no n) e = omega (arith, ap (λ (x : Read PeriodicList). length (textOf x)) e, refused-few n)
-    few (yes l rest) e = omega (arith, ap (λ (x : Read PeriodicList). length (textOf x)) e, text-few l (accepted-obeys s l rest k e .0))
+    few (denied n) e = omega (arith, ap (λ (x : Read PeriodicList). length (textOf x)) e, refused-few n)
+    few (took l rest) e = omega (arith, ap (λ (x : Read PeriodicList). length (textOf x)) e, text-few l (accepted-obeys s l rest k e .0))

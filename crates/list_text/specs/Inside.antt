@@ -7,7 +7,7 @@ use mathlib.Core.Bool.{Bool, true, false}
 use lib.ListN.{length, take, drop}
 use Rattle.lists.specs.declared.Header.{Header}
 use Rattle.lists.specs.Values.{PeriodicList, wordsOf}
-use Rattle.lists.specs.Reading.{yes}
+use Rattle.lists.specs.Reading.{took}
 use Rattle.lists.specs.Written.{Obeys, file}
 use Rattle.list_text.specs.Text.{cycleLines, textOf}
 use Rattle.periods.specs.Inside.{IsList}
@@ -22,6 +22,7 @@ pub record Wrote (write : Bool) (at : ℕ) (bytes out out' : List ℕ) (r : ℕ)
   pub next : r ≡ at + length bytes
   pub out-is : out' ≡ wroteIf write at bytes out
 
+-- there is room for n bytes, where they are written
 abbrev pub RoomIf : Bool → ℕ → List ℕ → Type 0
 RoomIf true n out = n ≤ length out
 RoomIf false n out = Unit {0}
@@ -36,6 +37,7 @@ pub record CyclesHere (s : List ℕ) (ms : ℕ) (write : Bool) (at : ℕ) (out :
   pub known : IsList s ms
   pub fits : Fits write at (length (cycleLines 0 (known .l .cycles))) out
 
+-- the lines of all cycles of the list in these bytes were written
 abbrev pub CyclesWrote : Bool → List ℕ → ℕ → List ℕ → List ℕ → ℕ → Type 0
 CyclesWrote write s at out out' r = (l : PeriodicList) → Obeys l → file l ≡ s → Wrote write at (cycleLines 0 (l .cycles)) out out' r
 
@@ -48,7 +50,8 @@ pub record ListHere (s : List ℕ) (h : Header) (words : ℕ) : Type 0 where
 
 -- the text of the list that is written so fits; it was counted or written
 abbrev pub TextFits : Bool → List ℕ → List ℕ → Type 0
-TextFits write s out = (l : PeriodicList) → Obeys l → file l ≡ s → Fits write 0 (length (textOf (yes l []))) out
+TextFits write s out = (l : PeriodicList) → Obeys l → file l ≡ s → Fits write 0 (length (textOf (took l []))) out
 
+-- the whole text of the list in these bytes was written
 abbrev pub TextWrote : Bool → List ℕ → List ℕ → List ℕ → ℕ → Type 0
-TextWrote write s out out' r = (l : PeriodicList) → Obeys l → file l ≡ s → Wrote write 0 (textOf (yes l [])) out out' r
+TextWrote write s out out' r = (l : PeriodicList) → Obeys l → file l ≡ s → Wrote write 0 (textOf (took l [])) out out' r

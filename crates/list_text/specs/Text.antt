@@ -7,7 +7,7 @@ use lib.Dec.{ltb, leb}
 use lib.ListN.{length}
 use Rattle.refusals.specs.Told.{Told, gives, refusing}
 use Rattle.lists.specs.Values.{Cycle, PeriodicList, wordsOf}
-use Rattle.lists.specs.Reading.{Read, no, yes}
+use Rattle.lists.specs.Reading.{Read, denied, took}
 use Rattle.lists.specs.Accepts.{accepted}
 use Rattle.lists.specs.Sends.{subcycles}
 use Rattle.list_text.specs.declared.Text.{Text}
@@ -29,9 +29,11 @@ decimal n = cond (ltb n 100) (two n) ((two (n / 100) ++ digit (n / 10 % 10) ∷ 
 abbrev pub hex : ℕ → List ℕ
 hex w = digit (w / 4096) ∷ digit (w / 256 % 16) ∷ digit (w / 16 % 16) ∷ digit (w % 16) ∷ []
 
+-- "Fields stand one space apart"
 abbrev pub space : ℕ
 space = 32
 
+-- "each line ends with a newline"
 abbrev pub newline : ℕ
 newline = 10
 
@@ -67,9 +69,10 @@ cycleLines n (c ∷ cs) = subcycleLines (2 ^ n) 0 (subcycles (c .words) (c .spli
 unfoldable pub refusedLine : ℕ → List ℕ
 refusedLine n = ((114 ∷ 101 ∷ 102 ∷ 117 ∷ []) ++ 115 ∷ 101 ∷ 100 ∷ space ∷ []) ++ field n newline
 
+-- "refused", a space and the number; or the header and a line per word in file order
 abbrev pub textOf : Read PeriodicList → List ℕ
-textOf (no n) = refusedLine n
-textOf (yes l rest) = headerLine (l .head .ms) (l .head .gap) (l .head .reserve) (length (wordsOf (l .cycles))) ++ cycleLines 0 (l .cycles)
+textOf (denied n) = refusedLine n
+textOf (took l rest) = headerLine (l .head .ms) (l .head .gap) (l .head .reserve) (length (wordsOf (l .cycles))) ++ cycleLines 0 (l .cycles)
 
 -- 4 exactly where the text does not fit
 unfoldable pub textBy {ℓ} : {A : Type ℓ} → List ℕ → ℕ → (ℕ → A) → (List ℕ → A) → A

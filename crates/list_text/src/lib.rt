@@ -14,7 +14,7 @@ ghost use Prim.Native.Nat.{ℕ};
 ghost use lib.ListN.{length, drop};
 ghost use Rattle.refusals.specs.Told.{gives, refusal};
 ghost use Rattle.refusals.specs.Refusals.{numberOf};
-ghost use Rattle.lists.specs.Reading.{no};
+ghost use Rattle.lists.specs.Reading.{denied};
 ghost use Rattle.lists.specs.Accepts.{accepted};
 ghost use Rattle.list_text.specs.Text.{textBy, toldText};
 ghost use Rattle.list_text.specs.Inside.{ListHere};
@@ -27,7 +27,7 @@ pub enum Text {
 
 // The text of a refusal.
 fn refused_text(list: &[u8], n: Refusal, out: &mut [u8]) -> Text
-    requires { ⌜ accepted (now list) ≡ no (numberOf n) ⌝ }
+    requires { ⌜ accepted (now list) ≡ denied (numberOf n) ⌝ }
     ensures { λ r. ⌜ (toldText r ≡ textBy (now (list .entry)) (length (now (out .entry))) refusal (λ t. gives (length t ∷ [])))
         × (now (out .exit) ≡ textBy (now (list .entry)) (length (now (out .entry))) (λ m. now (out .entry)) (λ t. t ++ drop (length t) (now (out .entry)))) ⌝ }
 {

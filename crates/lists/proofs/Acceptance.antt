@@ -12,7 +12,7 @@ use Rattle.numbers.specs.Written.{bytesOf, written, Bytes}
 use Rattle.lists.specs.declared.Header.{Header}
 use Rattle.lists.specs.Values.{Cycle, PeriodicList, cyclesOf, periodsOf, wordsOf}
 use Rattle.lists.specs.Rules.{Check, right, wrong, unless, also, rules}
-use Rattle.lists.specs.Reading.{Read, no, yes, then, when, headerIn, cyclesIn, listIn}
+use Rattle.lists.specs.Reading.{Read, denied, took, then, when, headerIn, cyclesIn, listIn}
 use Rattle.lists.specs.Sends.{sends, takes, some, overfull, crowded}
 use Rattle.lists.specs.Accepts.{none, ending, ended, accepted}
 use Rattle.lists.specs.Inside.{GoodHead}
@@ -86,23 +86,23 @@ pub record Accepted (s : List ℕ) (l : PeriodicList) : Type 0 where
   pub size : length s ≤ 16384
   pub good : GoodHead (l .head)
   pub after-head : List ℕ
-  pub head-read : headerIn s ≡ yes (l .head) after-head
+  pub head-read : headerIn s ≡ took (l .head) after-head
   pub end : List ℕ
-  pub cycles-read : cyclesIn rules (cyclesOf (l .head .ms)) 0 [] after-head ≡ yes (l .cycles) end
+  pub cycles-read : cyclesIn rules (cyclesOf (l .head .ms)) 0 [] after-head ≡ took (l .cycles) end
   pub ends : ending l end ≡ right
 
-accepted-parts : (s : List ℕ) (l : PeriodicList) (rest : List ℕ) → accepted s ≡ yes l rest → Accepted s l × (ending l rest ≡ right)
+accepted-parts : (s : List ℕ) (l : PeriodicList) (rest : List ℕ) → accepted s ≡ took l rest → Accepted s l × (ending l rest ≡ right)
 unfolding accepted listIn ended
 accepted-parts s l rest e =
     let u = when-yes (unless 1 (leb (length s) 16384)) (then (listIn rules s) ended) l rest e in
     let i = then-yes (listIn rules s) ended l rest (u .1) in
-    let w = when-yes (ending (i .0) (i .1)) (yes (i .0) (i .1)) l rest (i .3) in
-    let h = then-yes (headerIn s) (λ h r. then (cyclesIn rules (cyclesOf (h .ms)) 0 [] r) (λ cs end. yes (record { head = h; cycles = cs }) end)) (i .0) (i .1) (i .2) in
-    let c = then-yes (cyclesIn rules (cyclesOf (h .0 .ms)) 0 [] (h .1)) (λ cs end. yes (record { head = h .0; cycles = cs }) end) (i .0) (i .1) (h .3) in
+    let w = when-yes (ending (i .0) (i .1)) (took (i .0) (i .1)) l rest (i .3) in
+    let h = then-yes (headerIn s) (λ h r. then (cyclesIn rules (cyclesOf (h .ms)) 0 [] r) (λ cs end. took (record { head = h; cycles = cs }) end)) (i .0) (i .1) (i .2) in
+    let c = then-yes (cyclesIn rules (cyclesOf (h .0 .ms)) 0 [] (h .1)) (λ cs end. took (record { head = h .0; cycles = cs }) end) (i .0) (i .1) (h .3) in
     named (i .0) (i .1) (h .0) (h .1) (c .0) (c .1) (leb-true (length s) 16384 (unless-right 1 (leb (length s) 16384) (u .0))) (h .2) (c .2) (c .3) (w .0) (w .1)
   where
-    named : (l′ : PeriodicList) (r : List ℕ) (h : Header) (after : List ℕ) (cs : List Cycle) (end : List ℕ) → length s ≤ 16384 → headerIn s ≡ yes h after
-        → cyclesIn rules (cyclesOf (h .ms)) 0 [] after ≡ yes cs end → yes (record { head = h; cycles = cs }) end ≡ yes l′ r → ending l′ r ≡ right → yes l′ r ≡ yes l rest
+    named : (l′ : PeriodicList) (r : List ℕ) (h : Header) (after : List ℕ) (cs : List Cycle) (end : List ℕ) → length s ≤ 16384 → headerIn s ≡ took h after
+        → cyclesIn rules (cyclesOf (h .ms)) 0 [] after ≡ took cs end → took (record { head = h; cycles = cs }) end ≡ took l′ r → ending l′ r ≡ right → took l′ r ≡ took l rest
         → Accepted s l × (ending l rest ≡ right)
     named l′ r h after cs end z eh ec en x y =
         let a : record { head = h; cycles = cs } ≡ l′ = yes-value (record { head = h; cycles = cs }) l′ end r en in
@@ -113,7 +113,7 @@ accepted-parts s l rest e =
         let q : Accepted s (record { head = h; cycles = cs }) = record { size = z; good = good-head s h after eh; after-head = after; head-read = eh; end = end; cycles-read = ec; ends = p } in
         (subst (Accepted s) (a ∙ c) q, rw (c, d) at x)
 
-pub accepted-obeys : (s : List ℕ) (l : PeriodicList) (rest : List ℕ) → Bytes s → accepted s ≡ yes l rest → Obeys l × (file l ≡ s) × (rest ≡ [])
+pub accepted-obeys : (s : List ℕ) (l : PeriodicList) (rest : List ℕ) → Bytes s → accepted s ≡ took l rest → Obeys l × (file l ≡ s) × (rest ≡ [])
 accepted-obeys s l rest k e =
     let a = accepted-parts s l rest e in
     let p : Accepted s l = a .0 in
@@ -142,13 +142,13 @@ accepted-obeys s l rest k e =
       m .0,
     )
 
-pub obeys-accepted : (l : PeriodicList) → Obeys l → accepted (file l) ≡ yes l []
+pub obeys-accepted : (l : PeriodicList) → Obeys l → accepted (file l) ≡ took l []
 unfolding accepted listIn ended
 obeys-accepted l o =
     let g : GoodHead (l .head) = record { ms-low = o .ms .0; ms-high = o .ms .1; gap-low = o .gap .0; gap-high = o .gap .1; reserve-low = o .reserve .0; reserve-high = o .reserve .1 } in
     let fr : Fresh [] (wordsOf (l .cycles)) = once-fresh (wordsOf (l .cycles)) (obey-listable 0 (l .cycles) (o .cycles)) (o .once) in
-    let h : headerIn (file l) ≡ yes (l .head) (written (cyclesNumbers (l .cycles))) = header-back (l .head) (written (cyclesNumbers (l .cycles))) g in
-    let c : cyclesIn rules (cyclesOf (l .head .ms)) 0 [] (written (cyclesNumbers (l .cycles))) ≡ yes (l .cycles) [] =
+    let h : headerIn (file l) ≡ took (l .head) (written (cyclesNumbers (l .cycles))) = header-back (l .head) (written (cyclesNumbers (l .cycles))) g in
+    let c : cyclesIn rules (cyclesOf (l .head .ms)) 0 [] (written (cyclesNumbers (l .cycles))) ≡ took (l .cycles) [] =
     ap (λ (k : ℕ). cyclesIn rules k 0 [] (written (cyclesNumbers (l .cycles)))) (sym (o .many))
     ∙ ap (cyclesIn rules (length (l .cycles)) 0 []) (sym (append-nil (written (cyclesNumbers (l .cycles)))))
     ∙ cycles-back (l .cycles) [] 0 [] fr (obey-shaped 0 (l .cycles) (o .cycles)) in
@@ -156,10 +156,10 @@ obeys-accepted l o =
     rw (le-leb (length (file l)) 16384 (o .size), h, c, n)
 
 -- "A list is accepted exactly when the rules of document 01 hold"
-pub accepted-exactly : (s : List ℕ) (l : PeriodicList) → Bytes s → (accepted s ≡ yes l [] → Obeys l × (file l ≡ s)) × (Obeys l × (file l ≡ s) → accepted s ≡ yes l [])
+pub accepted-exactly : (s : List ℕ) (l : PeriodicList) → Bytes s → (accepted s ≡ took l [] → Obeys l × (file l ≡ s)) × (Obeys l × (file l ≡ s) → accepted s ≡ took l [])
 accepted-exactly s l k = (
   λ e. let p = accepted-obeys s l [] k e in (p .0, p .1),
-  λ p. subst (λ (x : List ℕ). accepted x ≡ yes l []) (p .1) (obeys-accepted l (p .0)),
+  λ p. subst (λ (x : List ℕ). accepted x ≡ took l []) (p .1) (obeys-accepted l (p .0)),
 )
 
 -- only one list is written so

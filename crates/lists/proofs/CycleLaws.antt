@@ -11,7 +11,7 @@ use Rattle.lists.specs.declared.Part.{Part}
 use Rattle.lists.specs.declared.Part.the-variants.{Done, Refused}
 use Rattle.lists.specs.Values.{Cycle}
 use Rattle.lists.specs.Rules.{rules}
-use Rattle.lists.specs.Reading.{Read, no, yes, then, within, wordsIn, splitIn, bodyIn, cycleIn}
+use Rattle.lists.specs.Reading.{Read, denied, took, then, within, wordsIn, splitIn, bodyIn, cycleIn}
 use Rattle.lists.specs.Inside.{Tells, SeenIs, Marked, Weights, Sums, Rising, Added, CycleDone}
 use Rattle.lists.proofs.HeadLaws.{in-range}
 use Rattle.lists.proofs.WordLaws.{Words, tells-no, tells-yes, told-no, told-yes}
@@ -19,12 +19,12 @@ use Rattle.lists.proofs.SplitLaws.{Split, sums-rise}
 
 -- a reading that only names what was read tells the same
 tells-then : {X Y : Type 0} (s : List ℕ) (r : Read X) (a : Part) (f : X → Y) (P : X → ℕ → Type 0) (Q : Y → ℕ → Type 0) → ((x : X) (k : ℕ) → P x k → Q (f x) k)
-    → Tells s r a P → Tells s (then r (λ x rest. yes (f x) rest)) a Q
+    → Tells s r a P → Tells s (then r (λ x rest. took (f x) rest)) a Q
 unfolding Tells
-tells-then s (no n) (Refused m) f P Q g t = t
-tells-then s (no n) (Done p k) f P Q g t = t
-tells-then s (yes x rest) (Refused m) f P Q g t = t
-tells-then s (yes x rest) (Done p k) f P Q g t = (t .0, g x k (t .1))
+tells-then s (denied n) (Refused m) f P Q g t = t
+tells-then s (denied n) (Done p k) f P Q g t = t
+tells-then s (took x rest) (Refused m) f P Q g t = t
+tells-then s (took x rest) (Done p k) f P Q g t = (t .0, g x k (t .1))
 
 abbrev pub Body : List ℕ → ℕ → ℕ → List ℕ → List ℕ → List ℕ → Part → List ℕ → List ℕ → Type 0
 Body s at count weights seen₀ load₀ r seen load =
@@ -50,17 +50,17 @@ module _ (s : List ℕ) (at count : ℕ) (weights seen₀ load₀ seen sums : Li
         let e : k ≡ count = u .2 .0 in
         let l : length own ≡ count = u .2 .1 in
         let z = q n weights own d (u .2 .3) (l ∙ sym e) in
-        rw (u .1) (subst (λ (c : ℕ). Tells s (then (splitIn rules n c (drop next s)) (λ zs end. yes (record { words = own; splits = zs }) end)) r (CycleDone before weights seen load₀ load)) e
+        rw (u .1) (subst (λ (c : ℕ). Tells s (then (splitIn rules n c (drop next s)) (λ zs end. took (record { words = own; splits = zs }) end)) r (CycleDone before weights seen load₀ load)) e
         (tells-then s (splitIn rules n k (drop next s)) r (λ zs. record { words = own; splits = zs }) _ (CycleDone before weights seen load₀ load)
         (λ zs m x. record { count = omega (arith, x .0, l, e); few = omega (arith, x .0, e, f); marks = u .2 .2; adds = x .1 }) z))
 
 module _ (s : List ℕ) (at : ℕ) (weights seen₀ load₀ : List ℕ) where
-  pub cycle-no-count : (m : Refusal) → within 0 256 (drop at s) ≡ no (numberOf m) → (seen load : List ℕ) (n : ℕ) (before : List ℕ)
+  pub cycle-no-count : (m : Refusal) → within 0 256 (drop at s) ≡ denied (numberOf m) → (seen load : List ℕ) (n : ℕ) (before : List ℕ)
       → Tells s (cycleIn rules n before (drop at s)) (Refused m) (CycleDone before weights seen load₀ load)
   unfolding cycleIn
   cycle-no-count m e seen load n before = tells-no s (cycleIn rules n before (drop at s)) _ m (rw e)
 
-  module _ (count next : ℕ) (e : within 0 256 (drop at s) ≡ yes count (drop next s)) where
+  module _ (count next : ℕ) (e : within 0 256 (drop at s) ≡ took count (drop next s)) where
     pub count-few : count ≤ 256
     count-few = in-range 0 256 (drop at s) count (drop next s) e .2
 

@@ -15,7 +15,7 @@ use Rattle.lists.specs.declared.Part.{Part}
 use Rattle.lists.specs.declared.Part.the-variants.{Done, Refused}
 use Rattle.lists.specs.Values.{Cycle, wordsOf}
 use Rattle.lists.specs.Rules.{rules}
-use Rattle.lists.specs.Reading.{Read, no, yes, then, cycleIn, cyclesIn}
+use Rattle.lists.specs.Reading.{Read, denied, took, then, cycleIn, cyclesIn}
 use Rattle.lists.specs.Sends.{subcycle, sentFrom}
 use Rattle.lists.specs.Inside.{Tells, SeenIs, Marked, Weights, Most, weigh, CycleDone, CyclesFew, Loaded}
 use Rattle.lists.proofs.WordLaws.{tells-no, tells-yes, told-no, told-yes, weigh-append}
@@ -111,11 +111,11 @@ module _ (s : List ℕ) (at cycles : ℕ) (weights : List ℕ) where
 
           pub stop : (m : Refusal) → r ≡ Refused m → (load' : List ℕ) → Tells s (cyclesIn rules cycles 0 [] (drop at s)) (Refused m) (Loaded weights load')
           stop m e load' =
-              let o : cycleIn rules n (wordsOf (inv .cs)) (drop p s) ≡ no (numberOf m) = told-no s (cycleIn rules n (wordsOf (inv .cs)) (drop p s)) _ m (rw e at told) in
+              let o : cycleIn rules n (wordsOf (inv .cs)) (drop p s) ≡ denied (numberOf m) = told-no s (cycleIn rules n (wordsOf (inv .cs)) (drop p s)) _ m (rw e at told) in
               tells-no s (cyclesIn rules cycles 0 [] (drop at s)) (Loaded weights load') m (next-one ∙ rw o)
 
           module _ (next k : ℕ) (e : r ≡ Done next k) where
-            got : (c : Cycle) × (cycleIn rules n (wordsOf (inv .cs)) (drop p s) ≡ yes c (drop next s)) × CycleDone (wordsOf (inv .cs)) weights seen₁ (take size₁ load₁) part c k
+            got : (c : Cycle) × (cycleIn rules n (wordsOf (inv .cs)) (drop p s) ≡ took c (drop next s)) × CycleDone (wordsOf (inv .cs)) weights seen₁ (take size₁ load₁) part c k
             got = told-yes s (cycleIn rules n (wordsOf (inv .cs)) (drop p s)) _ next k (rw e at told)
 
             pub k-few : k ≤ 256

@@ -24,7 +24,7 @@ use Rattle.lists.specs.declared.ListCheck.{ListCheck}
 use Rattle.lists.specs.declared.ListCheck.the-variants.{Accepted, Refused}
 use Rattle.lists.specs.Values.{Cycle, PeriodicList, cyclesOf, periodsOf, byMs, wordsOf}
 use Rattle.lists.specs.Rules.{Check, right, wrong, unless, also, fcode, listable, rules}
-use Rattle.lists.specs.Reading.{Read, no, yes, then, when, within, afterMs, headerIn, cycleIn, cyclesIn, listIn}
+use Rattle.lists.specs.Reading.{Read, denied, took, then, when, within, afterMs, headerIn, cycleIn, cyclesIn, listIn}
 use Rattle.lists.specs.Sends.{cutBy, subcycles, subcycle, sentFrom, sends, takes, some, overfull, crowded}
 use Rattle.lists.specs.Accepts.{none, ending, ended, accepted, afterHeader}
 use Rattle.lists.specs.Answers.{toldCheck, toldRead}
@@ -177,7 +177,7 @@ module _ (s : List ℕ) (head : Header) (end : ℕ) where
             rw (none-after s end h, o, q) (ap (λ (k : ℕ). gives (head .ms ∷ head .gap ∷ head .reserve ∷ k ∷ [])) (d .count))
 
 -- ---- the cycles
-pub cycles-length : (k n : ℕ) (cs : List Cycle) (bytes : List ℕ) (ds : List Cycle) (rest : List ℕ) → cyclesIn rules k n cs bytes ≡ yes ds rest → length ds ≡ length cs + k
+pub cycles-length : (k n : ℕ) (cs : List Cycle) (bytes : List ℕ) (ds : List Cycle) (rest : List ℕ) → cyclesIn rules k n cs bytes ≡ took ds rest → length ds ≡ length cs + k
 cycles-length zero n cs bytes ds rest e = let q : cs ≡ ds = yes-value cs ds bytes rest e in ap length (sym q) ∙ omega arith
 cycles-length (suc k) n cs bytes ds rest e =
     let i = then-yes (cycleIn rules n (wordsOf cs) bytes) (λ c r. cyclesIn rules k (suc n) (cs ++ c ∷ []) r) ds rest e in
@@ -257,7 +257,7 @@ module _ (s : List ℕ) (head : Header) (at cycles : ℕ) (c : cycles ≡ cycles
   unfolding afterHeader
   cycles-no m e = rw (← c, told-no s (cyclesIn rules cycles 0 [] (drop at s)) _ m (rw e at t))
 
-  after-yes : (cs : List Cycle) (end : ℕ) → cyclesIn rules cycles 0 [] (drop at s) ≡ yes cs (drop end s) → afterHeader head (drop at s) ≡ ended (record { head = head; cycles = cs }) (drop end s)
+  after-yes : (cs : List Cycle) (end : ℕ) → cyclesIn rules cycles 0 [] (drop at s) ≡ took cs (drop end s) → afterHeader head (drop at s) ≡ ended (record { head = head; cycles = cs }) (drop end s)
   unfolding afterHeader
   after-yes cs end q = ap (λ (k : ℕ). then (cyclesIn rules k 0 [] (drop at s)) (λ cs rest. ended (record { head = head; cycles = cs }) rest)) (sym c)
       ∙ ap (λ (x : Read (List Cycle)). then x (λ cs rest. ended (record { head = head; cycles = cs }) rest)) q
@@ -277,25 +277,25 @@ module _ (s : List ℕ) where
   too-long h = rw (lt-leb (length s) 16384 h)
 
   module _ (l : length s ≤ 16384) where
-    pub no-header : (m : Refusal) → headerIn s ≡ no (numberOf m) → refusing m ≡ toldRead (accepted s)
+    pub no-header : (m : Refusal) → headerIn s ≡ denied (numberOf m) → refusing m ≡ toldRead (accepted s)
     unfolding accepted listIn
     no-header m e = rw (le-leb (length s) 16384 l, e)
 
-    pub header-yes : (h : Header) (at : ℕ) → headerIn s ≡ yes h (drop at s) → toldRead (afterHeader h (drop at s)) ≡ toldRead (accepted s)
+    pub header-yes : (h : Header) (at : ℕ) → headerIn s ≡ took h (drop at s) → toldRead (afterHeader h (drop at s)) ≡ toldRead (accepted s)
     unfolding accepted listIn afterHeader
     header-yes h at e = rw (le-leb (length s) 16384 l, e) (ap toldRead (sym (both (cyclesIn rules (cyclesOf (h .ms)) 0 [] (drop at s)))))
       where
-        both : (r : Read (List Cycle)) → then (then r (λ cs end. yes (record { head = h; cycles = cs }) end)) ended ≡ then r (λ cs rest. ended (record { head = h; cycles = cs }) rest)
-        both (no n) = refl
-        both (yes cs rest) = refl
+        both : (r : Read (List Cycle)) → then (then r (λ cs end. took (record { head = h; cycles = cs }) end)) ended ≡ then r (λ cs rest. ended (record { head = h; cycles = cs }) rest)
+        both (denied n) = refl
+        both (took cs rest) = refl
 
-pub good-head : (s : List ℕ) (h : Header) (rest : List ℕ) → headerIn s ≡ yes h rest → GoodHead h
+pub good-head : (s : List ℕ) (h : Header) (rest : List ℕ) → headerIn s ≡ took h rest → GoodHead h
 unfolding headerIn afterMs
 good-head s h rest e =
     let a = then-yes (within 1 1 s) (λ one r. then (within 1 2 r) (λ ms end. afterMs ms end)) h rest e in
     let b = then-yes (within 1 2 (a .1)) (λ ms end. afterMs ms end) h rest (a .3) in
-    let c = then-yes (within 4 128 (b .1)) (λ gap r. then (within (67 + gap) (1500 * b .0) r) (λ reserve end. yes (record { ms = b .0; gap = gap; reserve = reserve }) end)) h rest (b .3) in
-    let d = then-yes (within (67 + c .0) (1500 * b .0) (c .1)) (λ reserve end. yes (record { ms = b .0; gap = c .0; reserve = reserve }) end) h rest (c .3) in
+    let c = then-yes (within 4 128 (b .1)) (λ gap r. then (within (67 + gap) (1500 * b .0) r) (λ reserve end. took (record { ms = b .0; gap = gap; reserve = reserve }) end)) h rest (b .3) in
+    let d = then-yes (within (67 + c .0) (1500 * b .0) (c .1)) (λ reserve end. took (record { ms = b .0; gap = c .0; reserve = reserve }) end) h rest (c .3) in
     let q : record { ms = b .0; gap = c .0; reserve = d .0 } ≡ h = yes-value (record { ms = b .0; gap = c .0; reserve = d .0 }) h (d .1) rest (d .3) in
     let rm = in-range 1 2 (a .1) (b .0) (b .1) (b .2) in
     let rg = in-range 4 128 (b .1) (c .0) (c .1) (c .2) in

@@ -20,7 +20,7 @@ use Rattle.lists.specs.declared.Part.{Part}
 use Rattle.lists.specs.declared.Part.the-variants.{Done, Refused as Refused-part}
 use Rattle.lists.specs.Values.{Cycle, sum}
 use Rattle.lists.specs.Rules.{splitRule, rules}
-use Rattle.lists.specs.Reading.{Read, no, yes, then, when, within, splitsIn, summedIn, splitIn}
+use Rattle.lists.specs.Reading.{Read, denied, took, then, when, within, splitsIn, summedIn, splitIn}
 use Rattle.lists.specs.Sends.{cutBy, subcycles, subcycle}
 use Rattle.lists.specs.Inside.{readOf, Tells, weigh, Weights, Sums, Rising, Most, Cut, Added}
 use Rattle.lists.proofs.HeadLaws.{in-range}
@@ -123,7 +123,7 @@ module _ (s : List ℕ) (at count : ℕ) (sums load₀ : List ℕ) where
       u : Upto s at weights own load₀ load p i done
       u = inv .told weights own k e
 
-      read : splitsIn (length load₀) [] (drop at s) ≡ yes (u .zs) (drop p s)
+      read : splitsIn (length load₀) [] (drop at s) ≡ took (u .zs) (drop p s)
       read = let z : length load₀ - i ≡ 0 = omega (arith, inv .long) in sym (u .left) ∙ ap (λ (n : ℕ). splitsIn n (u .zs) (drop p s)) z
 
       end-told : done ≡ count → Tells s (summedIn rules (length load₀) count (drop at s)) (Done p count) (λ zs k. (k ≡ count) × (length zs ≡ length load₀) × Cut weights own zs load₀ load)
@@ -153,11 +153,11 @@ module _ (s : List ℕ) (at count : ℕ) (sums load₀ : List ℕ) where
           let u = inv .told weights own k e in
           sym (u .left) ∙ ap (λ (n : ℕ). splitsIn n (u .zs) (drop p s)) q
 
-      pub stop : (m : Refusal) → within 0 256 (drop p s) ≡ no (numberOf m) → (load' : List ℕ) → Splits s at count sums load₀ (Refused-part m) load'
+      pub stop : (m : Refusal) → within 0 256 (drop p s) ≡ denied (numberOf m) → (load' : List ℕ) → Splits s at count sums load₀ (Refused-part m) load'
       unfolding summedIn
       stop m q load' weights own k e = tells-no s (summedIn rules (length load₀) count (drop at s)) _ m (rw (next-one weights own k e, q))
 
-      module _ (z next : ℕ) (q : within 0 256 (drop p s) ≡ yes z (drop next s)) where
+      module _ (z next : ℕ) (q : within 0 256 (drop p s) ≡ took z (drop next s)) where
         small-z : z ≤ 256
         small-z = in-range 0 256 (drop p s) z (drop next s) q .2
 
@@ -224,12 +224,12 @@ module _ (s : List ℕ) (at count : ℕ) (sums load₀ : List ℕ) where
 many : (n : ℕ) → 2 ^ suc n ≡ 1 → ⊥
 many n e = let p : 2 ^ 0 < 2 ^ suc n = pow-lt {i = 0} {j = suc n} (omega arith) in omega arith
 
-split-zero : (n count : ℕ) (bytes : List ℕ) → 2 ^ n ≡ 1 → splitIn rules n count bytes ≡ yes [] bytes
+split-zero : (n count : ℕ) (bytes : List ℕ) → 2 ^ n ≡ 1 → splitIn rules n count bytes ≡ took [] bytes
 unfolding splitIn
 split-zero zero count bytes e = refl
 split-zero (suc n) count bytes e = absurd (many n e)
 
-split-empty : (n count : ℕ) (bytes : List ℕ) → count ≡ 0 → splitIn rules n count bytes ≡ yes [] bytes
+split-empty : (n count : ℕ) (bytes : List ℕ) → count ≡ 0 → splitIn rules n count bytes ≡ took [] bytes
 unfolding splitIn
 split-empty zero count bytes e = refl
 split-empty (suc n) zero bytes e = refl
@@ -243,10 +243,10 @@ split-full (suc n) (suc c) bytes h e = refl
 
 tells-map : {X : Type 0} (s : List ℕ) (r : Read X) (a : Part) (P Q : X → ℕ → Type 0) → ((x : X) (k : ℕ) → P x k → Q x k) → Tells s r a P → Tells s r a Q
 unfolding Tells
-tells-map s (no n) (Refused-part m) P Q f t = t
-tells-map s (no n) (Done p k) P Q f t = t
-tells-map s (yes x rest) (Refused-part m) P Q f t = t
-tells-map s (yes x rest) (Done p k) P Q f t = (t .0, f x k (t .1))
+tells-map s (denied n) (Refused-part m) P Q f t = t
+tells-map s (denied n) (Done p k) P Q f t = t
+tells-map s (took x rest) (Refused-part m) P Q f t = t
+tells-map s (took x rest) (Done p k) P Q f t = (t .0, f x k (t .1))
 
 cut-added : (weights own zs load load' : List ℕ) → 0 < length zs → Cut weights own zs load load' → Added weights load load' (record { words = own; splits = zs })
 unfolding subcycle

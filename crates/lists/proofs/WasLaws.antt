@@ -15,7 +15,7 @@ use Rattle.numbers.proofs.WrittenLaws.{was, read-back, written-append, bytes-dr
 use Rattle.lists.specs.declared.Header.{Header}
 use Rattle.lists.specs.Values.{Cycle, PeriodicList, cyclesOf, wordsOf, sum}
 use Rattle.lists.specs.Rules.{Check, right, wrong, unless, also, fcode, processData, listable, clashes, wordRule, splitRule, rules}
-use Rattle.lists.specs.Reading.{Read, no, yes, then, when, orFive, numberIn, within, afterMs, headerIn, wordsIn, splitsIn, summedIn, splitIn, bodyIn, cycleIn, cyclesIn}
+use Rattle.lists.specs.Reading.{Read, denied, took, then, when, orFive, numberIn, within, afterMs, headerIn, wordsIn, splitsIn, summedIn, splitIn, bodyIn, cycleIn, cyclesIn}
 use Rattle.lists.specs.Inside.{GoodHead}
 use Rattle.lists.specs.Written.{cycleNumbers, cyclesNumbers, All, Split}
 use Rattle.lists.proofs.HeadLaws.{in-range}
@@ -28,11 +28,11 @@ pub record NumberWas (bytes : List ℕ) (v : ℕ) (rest : List ℕ) : Type 0 whe
   pub are : bytes ≡ bytesOf v ++ rest
   pub tail : Bytes rest
 
-number-was : (bytes : List ℕ) (v : ℕ) (rest : List ℕ) → Bytes bytes → numberIn bytes ≡ yes v rest → NumberWas bytes v rest
+number-was : (bytes : List ℕ) (v : ℕ) (rest : List ℕ) → Bytes bytes → numberIn bytes ≡ took v rest → NumberWas bytes v rest
 unfolding numberIn
 number-was bytes v rest k e = go (number bytes) refl e
   where
-    go : (t : Taken) → number bytes ≡ t → orFive bytes t ≡ yes v rest → NumberWas bytes v rest
+    go : (t : Taken) → number bytes ≡ t → orFive bytes t ≡ took v rest → NumberWas bytes v rest
     go bad q e = let z : _≡_ {A = ℕ} 0 1 = cc in absurd (omega arith)
     go (taken w n) q e =
         let i : w ≡ v = cc in
@@ -44,14 +44,14 @@ number-was bytes v rest k e = go (number bytes) refl e
           tail = subst Bytes j (bytes-drop n bytes k);
         }
 
-number-back : (v : ℕ) (t : List ℕ) → v ≤ 65535 → numberIn (bytesOf v ++ t) ≡ yes v t
+number-back : (v : ℕ) (t : List ℕ) → v ≤ 65535 → numberIn (bytesOf v ++ t) ≡ took v t
 unfolding numberIn
-number-back v t m = ap (orFive (bytesOf v ++ t)) (read-back v t m) ∙ ap (yes v) (drop-append-seam (bytesOf v) t)
+number-back v t m = ap (orFive (bytesOf v ++ t)) (read-back v t m) ∙ ap (took v) (drop-append-seam (bytesOf v) t)
 
-pub within-was : (lo hi : ℕ) (bytes : List ℕ) (v : ℕ) (rest : List ℕ) → Bytes bytes → within lo hi bytes ≡ yes v rest → NumberWas bytes v rest × (lo ≤ v) × (v ≤ hi)
+pub within-was : (lo hi : ℕ) (bytes : List ℕ) (v : ℕ) (rest : List ℕ) → Bytes bytes → within lo hi bytes ≡ took v rest → NumberWas bytes v rest × (lo ≤ v) × (v ≤ hi)
 within-was lo hi bytes v rest k e = let r = in-range lo hi bytes v rest e in (number-was bytes v rest k (r .0), r .1, r .2)
 
-pub within-back : (lo hi v : ℕ) (t : List ℕ) → lo ≤ v → v ≤ hi → hi ≤ 65535 → within lo hi (bytesOf v ++ t) ≡ yes v t
+pub within-back : (lo hi v : ℕ) (t : List ℕ) → lo ≤ v → v ≤ hi → hi ≤ 65535 → within lo hi (bytesOf v ++ t) ≡ took v t
 unfolding within
 within-back lo hi v t l h m = rw (number-back v t (omega arith), le-leb lo v l, le-leb v hi h)
 
@@ -94,7 +94,7 @@ pub record WordsWas (before own bytes all rest : List ℕ) (k : ℕ) : Type 0 wh
   pub tail : Bytes rest
   pub fresh : Fresh (before ++ own) new
 
-words-was : (k : ℕ) (before own bytes all rest : List ℕ) → Bytes bytes → wordsIn rules k before own bytes ≡ yes all rest → WordsWas before own bytes all rest k
+words-was : (k : ℕ) (before own bytes all rest : List ℕ) → Bytes bytes → wordsIn rules k before own bytes ≡ took all rest → WordsWas before own bytes all rest k
 words-was zero before own bytes all rest h e =
     let a : own ≡ all = yes-value own all bytes rest e in
     let b : bytes ≡ rest = yes-rest own all bytes rest e in
@@ -115,14 +115,14 @@ words-was (suc k) before own bytes all rest h e =
       fresh = (c .0, c .1, subst (λ (l : List ℕ). Fresh l (r .new)) (sym (append-assoc before own (w ∷ []))) (r .fresh));
     }
 
-words-back : (new before own t : List ℕ) → Fresh (before ++ own) new → wordsIn rules (length new) before own (written new ++ t) ≡ yes (own ++ new) t
-words-back [] before own t f = ap (λ (l : List ℕ). yes l t) (sym (append-nil own))
+words-back : (new before own t : List ℕ) → Fresh (before ++ own) new → wordsIn rules (length new) before own (written new ++ t) ≡ took (own ++ new) t
+words-back [] before own t f = ap (λ (l : List ℕ). took l t) (sym (append-nil own))
 words-back (w ∷ new) before own t f =
     let e : (bytesOf w ++ written new) ++ t ≡ bytesOf w ++ (written new ++ t) = append-assoc (bytesOf w) (written new) t in
     let l : listable w ≡ true = f .0 in
     let c : clashes w (before ++ own) ≡ false = f .1 in
     let g : Fresh (before ++ (own ++ w ∷ [])) new = subst (λ (x : List ℕ). Fresh x new) (append-assoc before own (w ∷ [])) (f .2) in
-    rw (e, number-back w (written new ++ t) (listable-most w l), l, c) (words-back new before (own ++ w ∷ []) t g ∙ ap (λ (x : List ℕ). yes x t) (append-assoc own (w ∷ []) new))
+    rw (e, number-back w (written new ++ t) (listable-most w l), l, c) (words-back new before (own ++ w ∷ []) t g ∙ ap (λ (x : List ℕ). took x t) (append-assoc own (w ∷ []) new))
 
 -- ---- split numbers
 pub record SplitsWas (zs bytes all rest : List ℕ) (k : ℕ) : Type 0 where
@@ -133,7 +133,7 @@ pub record SplitsWas (zs bytes all rest : List ℕ) (k : ℕ) : Type 0 where
   pub tail : Bytes rest
   pub small : All (λ z. z ≤ 256) new
 
-splits-was : (k : ℕ) (zs bytes all rest : List ℕ) → Bytes bytes → splitsIn k zs bytes ≡ yes all rest → SplitsWas zs bytes all rest k
+splits-was : (k : ℕ) (zs bytes all rest : List ℕ) → Bytes bytes → splitsIn k zs bytes ≡ took all rest → SplitsWas zs bytes all rest k
 splits-was zero zs bytes all rest h e =
     let a : zs ≡ all = yes-value zs all bytes rest e in
     let b : bytes ≡ rest = yes-rest zs all bytes rest e in
@@ -152,32 +152,32 @@ splits-was (suc k) zs bytes all rest h e =
       small = (n .2, r .small);
     }
 
-splits-back : (new zs t : List ℕ) → All (λ z. z ≤ 256) new → splitsIn (length new) zs (written new ++ t) ≡ yes (zs ++ new) t
-splits-back [] zs t s = ap (λ (l : List ℕ). yes l t) (sym (append-nil zs))
+splits-back : (new zs t : List ℕ) → All (λ z. z ≤ 256) new → splitsIn (length new) zs (written new ++ t) ≡ took (zs ++ new) t
+splits-back [] zs t s = ap (λ (l : List ℕ). took l t) (sym (append-nil zs))
 splits-back (z ∷ new) zs t s =
     let e : (bytesOf z ++ written new) ++ t ≡ bytesOf z ++ (written new ++ t) = append-assoc (bytesOf z) (written new) t in
     let m : 256 ≤ 65535 = omega arith in
     let o : 0 ≤ z = omega arith in
-    rw (e, within-back 0 256 z (written new ++ t) o (s .0) m) (splits-back new (zs ++ z ∷ []) t (s .1) ∙ ap (λ (x : List ℕ). yes x t) (append-assoc zs (z ∷ []) new))
+    rw (e, within-back 0 256 z (written new ++ t) o (s .0) m) (splits-back new (zs ++ z ∷ []) t (s .1) ∙ ap (λ (x : List ℕ). took x t) (append-assoc zs (z ∷ []) new))
 
 pub record SplitWas (n : ℕ) (ws zs bytes rest : List ℕ) : Type 0 where
   pub shape : Split n ws zs
   pub bytes-are : bytes ≡ written zs ++ rest
   pub tail : Bytes rest
 
-none-was : (n : ℕ) (ws zs bytes rest : List ℕ) → Bytes bytes → (zs ≡ [] → Split n ws zs) → yes [] bytes ≡ yes zs rest → SplitWas n ws zs bytes rest
+none-was : (n : ℕ) (ws zs bytes rest : List ℕ) → Bytes bytes → (zs ≡ [] → Split n ws zs) → took [] bytes ≡ took zs rest → SplitWas n ws zs bytes rest
 none-was n ws zs bytes rest h f e =
     let a : [] ≡ zs = yes-value [] zs bytes rest e in
     let b : bytes ≡ rest = yes-rest [] zs bytes rest e in
     record { shape = f (sym a); bytes-are = b ∙ ap (λ (l : List ℕ). written l ++ rest) a; tail = subst Bytes b h }
 
-split-was : (n : ℕ) (ws zs bytes rest : List ℕ) → Bytes bytes → splitIn rules n (length ws) bytes ≡ yes zs rest → SplitWas n ws zs bytes rest
+split-was : (n : ℕ) (ws zs bytes rest : List ℕ) → Bytes bytes → splitIn rules n (length ws) bytes ≡ took zs rest → SplitWas n ws zs bytes rest
 unfolding splitIn summedIn
 split-was zero ws zs bytes rest h e = none-was zero ws zs bytes rest h (λ q. q) e
 split-was (suc n) [] zs bytes rest h e = none-was (suc n) [] zs bytes rest h (λ q. q) e
 split-was (suc n) (w ∷ ws) zs bytes rest h e =
-    let i = then-yes (splitsIn (2 ^ suc n) [] bytes) (λ x r. when (splitRule (suc (length ws)) x) (yes x r)) zs rest e in
-    let u = when-yes (splitRule (suc (length ws)) (i .0)) (yes (i .0) (i .1)) zs rest (i .3) in
+    let i = then-yes (splitsIn (2 ^ suc n) [] bytes) (λ x r. when (splitRule (suc (length ws)) x) (took x r)) zs rest e in
+    let u = when-yes (splitRule (suc (length ws)) (i .0)) (took (i .0) (i .1)) zs rest (i .3) in
     let a : i .0 ≡ zs = yes-value (i .0) zs (i .1) rest (u .1) in
     let b : i .1 ≡ rest = yes-rest (i .0) zs (i .1) rest (u .1) in
     let r = splits-was (2 ^ suc n) [] bytes (i .0) (i .1) h (i .2) in
@@ -189,7 +189,7 @@ split-was (suc n) (w ∷ ws) zs bytes rest h e =
       tail = subst Bytes b (r .tail);
     }
 
-split-back : (n : ℕ) (ws zs t : List ℕ) → Split n ws zs → splitIn rules n (length ws) (written zs ++ t) ≡ yes zs t
+split-back : (n : ℕ) (ws zs t : List ℕ) → Split n ws zs → splitIn rules n (length ws) (written zs ++ t) ≡ took zs t
 unfolding splitIn summedIn
 split-back zero ws zs t s = rw s
 split-back (suc n) [] zs t s = rw s
@@ -224,26 +224,26 @@ cycle-built n k before bytes r₁ r₂ r₃ ws zs a f b d =
       tail = d .tail;
     }
 
-cycle-was : (n : ℕ) (before : List ℕ) (c : Cycle) (bytes rest : List ℕ) → Bytes bytes → cycleIn rules n before bytes ≡ yes c rest → CycleWas n before c bytes rest
+cycle-was : (n : ℕ) (before : List ℕ) (c : Cycle) (bytes rest : List ℕ) → Bytes bytes → cycleIn rules n before bytes ≡ took c rest → CycleWas n before c bytes rest
 unfolding cycleIn bodyIn
 cycle-was n before c bytes rest h e =
     let i = then-yes (within 0 256 bytes) (λ count r. bodyIn rules n before count r) c rest e in
     let a = within-was 0 256 bytes (i .0) (i .1) h (i .2) in
-    let j = then-yes (wordsIn rules (i .0) before [] (i .1)) (λ ws r. then (splitIn rules n (i .0) r) (λ zs end. yes (record { words = ws; splits = zs }) end)) c rest (i .3) in
+    let j = then-yes (wordsIn rules (i .0) before [] (i .1)) (λ ws r. then (splitIn rules n (i .0) r) (λ zs end. took (record { words = ws; splits = zs }) end)) c rest (i .3) in
     let b = words-was (i .0) before [] (i .1) (j .0) (j .1) (a .0 .tail) (j .2) in
-    let m = then-yes (splitIn rules n (i .0) (j .1)) (λ zs end. yes (record { words = j .0; splits = zs }) end) c rest (j .3) in
+    let m = then-yes (splitIn rules n (i .0) (j .1)) (λ zs end. took (record { words = j .0; splits = zs }) end) c rest (j .3) in
     let l : length (j .0) ≡ i .0 = ap length (b .are) ∙ b .long in
     let d = split-was n (j .0) (m .0) (j .1) (m .1) (b .tail) (ap (λ (x : ℕ). splitIn rules n x (j .1)) l ∙ m .2) in
     named (j .0) (m .0) (m .1) (cycle-built n (i .0) before bytes (i .1) (j .1) (m .1) (j .0) (m .0) (a .0) (a .2) b d) (m .3)
   where
-    named : (ws zs end : List ℕ) → CycleWas n before (record { words = ws; splits = zs }) bytes end → yes (record { words = ws; splits = zs }) end ≡ yes c rest → CycleWas n before c bytes rest
+    named : (ws zs end : List ℕ) → CycleWas n before (record { words = ws; splits = zs }) bytes end → took (record { words = ws; splits = zs }) end ≡ took c rest → CycleWas n before c bytes rest
     named ws zs end w q =
         let x : record { words = ws; splits = zs } ≡ c = yes-value (record { words = ws; splits = zs }) c end rest q in
         let y : end ≡ rest = yes-rest (record { words = ws; splits = zs }) c end rest q in
         subst (λ (u : List ℕ). CycleWas n before c bytes u) y (subst (λ (u : Cycle). CycleWas n before u bytes end) x w)
 
 cycle-back : (n : ℕ) (before : List ℕ) (c : Cycle) (t : List ℕ) → length (c .words) ≤ 256 → Fresh before (c .words) → Split n (c .words) (c .splits)
-    → cycleIn rules n before (written (cycleNumbers c) ++ t) ≡ yes c t
+    → cycleIn rules n before (written (cycleNumbers c) ++ t) ≡ took c t
 unfolding cycleIn bodyIn
 cycle-back n before c t k f s =
     let o : 0 ≤ length (c .words) = omega arith in
@@ -265,7 +265,7 @@ pub record CyclesWas (n : ℕ) (before cs : List Cycle) (bytes rest : List ℕ) 
   pub bytes-are : bytes ≡ written (cyclesNumbers new) ++ rest
   pub tail : Bytes rest
 
-pub cycles-was : (k n : ℕ) (before cs : List Cycle) (bytes rest : List ℕ) → Bytes bytes → cyclesIn rules k n before bytes ≡ yes cs rest → CyclesWas n before cs bytes rest k
+pub cycles-was : (k n : ℕ) (before cs : List Cycle) (bytes rest : List ℕ) → Bytes bytes → cyclesIn rules k n before bytes ≡ took cs rest → CyclesWas n before cs bytes rest k
 cycles-was zero n before cs bytes rest h e =
     let a : before ≡ cs = yes-value before cs bytes rest e in
     let b : bytes ≡ rest = yes-rest before cs bytes rest e in
@@ -287,8 +287,8 @@ cycles-was (suc k) n before cs bytes rest h e =
     }
 
 pub cycles-back : (new before : List Cycle) (n : ℕ) (t : List ℕ) → Fresh (wordsOf before) (wordsOf new) → Shaped n new
-    → cyclesIn rules (length new) n before (written (cyclesNumbers new) ++ t) ≡ yes (before ++ new) t
-cycles-back [] before n t f s = ap (λ (l : List Cycle). yes l t) (sym (append-nil before))
+    → cyclesIn rules (length new) n before (written (cyclesNumbers new) ++ t) ≡ took (before ++ new) t
+cycles-back [] before n t f s = ap (λ (l : List Cycle). took l t) (sym (append-nil before))
 cycles-back (c ∷ new) before n t f s =
     let e : written (cyclesNumbers (c ∷ new)) ++ t ≡ written (cycleNumbers c) ++ (written (cyclesNumbers new) ++ t) =
     ap (λ (l : List ℕ). l ++ t) (written-append (cycleNumbers c) (cyclesNumbers new)) ∙ append-assoc (written (cycleNumbers c)) (written (cyclesNumbers new)) t in
@@ -296,19 +296,19 @@ cycles-back (c ∷ new) before n t f s =
     ap (cyclesIn rules (suc (length new)) n before) e
     ∙ ap (λ (x : Read Cycle). then x (λ c r. cyclesIn rules (length new) (suc n) (before ++ c ∷ []) r))
     (cycle-back n (wordsOf before) c (written (cyclesNumbers new) ++ t) (s .0) (fresh-left (wordsOf before) (c .words) (wordsOf new) f) (s .1))
-    ∙ cycles-back new (before ++ c ∷ []) (suc n) t g (s .2) ∙ ap (λ (l : List Cycle). yes l t) (append-assoc before (c ∷ []) new)
+    ∙ cycles-back new (before ++ c ∷ []) (suc n) t g (s .2) ∙ ap (λ (l : List Cycle). took l t) (append-assoc before (c ∷ []) new)
 
 -- ---- the header
 abbrev pub headWritten : ℕ → ℕ → ℕ → List ℕ → List ℕ
 headWritten ms gap reserve t = bytesOf 1 ++ (bytesOf ms ++ (bytesOf gap ++ (bytesOf reserve ++ t)))
 
-pub header-was : (bytes : List ℕ) (h : Header) (rest : List ℕ) → Bytes bytes → headerIn bytes ≡ yes h rest → (bytes ≡ headWritten (h .ms) (h .gap) (h .reserve) rest) × Bytes rest
+pub header-was : (bytes : List ℕ) (h : Header) (rest : List ℕ) → Bytes bytes → headerIn bytes ≡ took h rest → (bytes ≡ headWritten (h .ms) (h .gap) (h .reserve) rest) × Bytes rest
 unfolding headerIn afterMs
 header-was bytes h rest k e =
     let a = then-yes (within 1 1 bytes) (λ one r. then (within 1 2 r) (λ ms end. afterMs ms end)) h rest e in
     let b = then-yes (within 1 2 (a .1)) (λ ms end. afterMs ms end) h rest (a .3) in
-    let c = then-yes (within 4 128 (b .1)) (λ gap r. then (within (67 + gap) (1500 * b .0) r) (λ reserve end. yes (record { ms = b .0; gap = gap; reserve = reserve }) end)) h rest (b .3) in
-    let d = then-yes (within (67 + c .0) (1500 * b .0) (c .1)) (λ reserve end. yes (record { ms = b .0; gap = c .0; reserve = reserve }) end) h rest (c .3) in
+    let c = then-yes (within 4 128 (b .1)) (λ gap r. then (within (67 + gap) (1500 * b .0) r) (λ reserve end. took (record { ms = b .0; gap = gap; reserve = reserve }) end)) h rest (b .3) in
+    let d = then-yes (within (67 + c .0) (1500 * b .0) (c .1)) (λ reserve end. took (record { ms = b .0; gap = c .0; reserve = reserve }) end) h rest (c .3) in
     let wa = within-was 1 1 bytes (a .0) (a .1) k (a .2) in
     let wb = within-was 1 2 (a .1) (b .0) (b .1) (wa .0 .tail) (b .2) in
     let wc = within-was 4 128 (b .1) (c .0) (c .1) (wb .0 .tail) (c .2) in
@@ -316,14 +316,14 @@ header-was bytes h rest k e =
     named (a .0) (b .0) (c .0) (d .0) (a .1) (b .1) (c .1) (d .1) (omega (arith, wa .1, wa .2)) (wa .0 .are) (wb .0 .are) (wc .0 .are) (wd .0 .are) (wd .0 .tail) (d .3)
   where
     named : (one ms gap reserve : ℕ) (r₁ r₂ r₃ end : List ℕ) → one ≡ 1 → bytes ≡ bytesOf one ++ r₁ → r₁ ≡ bytesOf ms ++ r₂ → r₂ ≡ bytesOf gap ++ r₃ → r₃ ≡ bytesOf reserve ++ end → Bytes end
-        → yes (record { ms = ms; gap = gap; reserve = reserve }) end ≡ yes h rest → (bytes ≡ headWritten (h .ms) (h .gap) (h .reserve) rest) × Bytes rest
+        → took (record { ms = ms; gap = gap; reserve = reserve }) end ≡ took h rest → (bytes ≡ headWritten (h .ms) (h .gap) (h .reserve) rest) × Bytes rest
     named one ms gap reserve r₁ r₂ r₃ end o ea eb ec ed t q =
         let x : record { ms = ms; gap = gap; reserve = reserve } ≡ h = yes-value (record { ms = ms; gap = gap; reserve = reserve }) h end rest q in
         let y : end ≡ rest = yes-rest (record { ms = ms; gap = gap; reserve = reserve }) h end rest q in
         let z : bytes ≡ headWritten ms gap reserve end = ea ∙ rw (o, eb, ec, ed) in
         (subst (λ (u : List ℕ). bytes ≡ headWritten (h .ms) (h .gap) (h .reserve) u) y (subst (λ (u : Header). bytes ≡ headWritten (u .ms) (u .gap) (u .reserve) end) x z), subst Bytes y t)
 
-pub header-back : (h : Header) (t : List ℕ) → GoodHead h → headerIn (headWritten (h .ms) (h .gap) (h .reserve) t) ≡ yes h t
+pub header-back : (h : Header) (t : List ℕ) → GoodHead h → headerIn (headWritten (h .ms) (h .gap) (h .reserve) t) ≡ took h t
 unfolding headerIn afterMs
 header-back h t g =
     let o : 1 ≤ 1 = omega arith in

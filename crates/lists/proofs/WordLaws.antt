@@ -17,16 +17,16 @@ use Rattle.numbers.specs.declared.Number.the-variants.{Value, Refused}
 use Rattle.lists.specs.declared.Part.{Part}
 use Rattle.lists.specs.declared.Part.the-variants.{Done, Refused as Refused-part}
 use Rattle.lists.specs.Rules.{Check, right, wrong, unless, also, fcode, listable, clashes, wordRule, rules}
-use Rattle.lists.specs.Reading.{Read, no, yes, then, when, numberIn, wordsIn}
+use Rattle.lists.specs.Reading.{Read, denied, took, then, when, numberIn, wordsIn}
 use Rattle.lists.specs.Inside.{readOf, Tells, SeenIs, WordTold, weigh, Weights, Sums}
 
 -- ---- a word
 module _ (s : List ℕ) (at : ℕ) (before seen : List ℕ) where
-  pub word-bad : (n : Refusal) → numberIn (drop at s) ≡ no (numberOf n) → WordTold s at before (Refused n) seen
+  pub word-bad : (n : Refusal) → numberIn (drop at s) ≡ denied (numberOf n) → WordTold s at before (Refused n) seen
   unfolding WordTold
   word-bad n e = rw e
 
-  module _ (w : ℕ) (next : ℕ) (e : numberIn (drop at s) ≡ yes w (drop next s)) where
+  module _ (w : ℕ) (next : ℕ) (e : numberIn (drop at s) ≡ took w (drop next s)) where
     pub word-7 : (m : Refusal) → numberOf m ≡ 7 → listable w ≡ false → WordTold s at before (Refused m) seen
     unfolding WordTold
     word-7 m q l = rw (e, l, q)
@@ -41,23 +41,23 @@ module _ (s : List ℕ) (at : ℕ) (before seen : List ℕ) where
 
 -- ---- what an answer tells of a reading, and the other way round
 module _ {X : Type 0} (s : List ℕ) (r : Read X) (P : X → ℕ → Type 0) where
-  pub tells-no : (m : Refusal) → r ≡ no (numberOf m) → Tells s r (Refused-part m) P
+  pub tells-no : (m : Refusal) → r ≡ denied (numberOf m) → Tells s r (Refused-part m) P
   unfolding Tells
   tells-no m e = rw e
 
-  pub tells-yes : (x : X) (p k : ℕ) → r ≡ yes x (drop p s) → P x k → Tells s r (Done p k) P
+  pub tells-yes : (x : X) (p k : ℕ) → r ≡ took x (drop p s) → P x k → Tells s r (Done p k) P
   unfolding Tells
   tells-yes x p k e h = rw e (refl, h)
 
-pub told-no : {X : Type 0} (s : List ℕ) (r : Read X) (P : X → ℕ → Type 0) (m : Refusal) → Tells s r (Refused-part m) P → r ≡ no (numberOf m)
+pub told-no : {X : Type 0} (s : List ℕ) (r : Read X) (P : X → ℕ → Type 0) (m : Refusal) → Tells s r (Refused-part m) P → r ≡ denied (numberOf m)
 unfolding Tells
-told-no s (no n) P m t = ap no (sym t)
-told-no s (yes x rest) P m t = absurd t
+told-no s (denied n) P m t = ap denied (sym t)
+told-no s (took x rest) P m t = absurd t
 
-pub told-yes : {X : Type 0} (s : List ℕ) (r : Read X) (P : X → ℕ → Type 0) (p k : ℕ) → Tells s r (Done p k) P → (x : X) × (r ≡ yes x (drop p s)) × P x k
+pub told-yes : {X : Type 0} (s : List ℕ) (r : Read X) (P : X → ℕ → Type 0) (p k : ℕ) → Tells s r (Done p k) P → (x : X) × (r ≡ took x (drop p s)) × P x k
 unfolding Tells
-told-yes s (no n) P p k t = absurd t
-told-yes s (yes x rest) P p k t = (x, ap (yes x) (t .0), t .1)
+told-yes s (denied n) P p k t = absurd t
+told-yes s (took x rest) P p k t = (x, ap (took x) (t .0), t .1)
 
 -- ---- the weights of words
 pub weigh-append : (weights a b : List ℕ) → weigh weights (a ++ b) ≡ weigh weights a + weigh weights b
@@ -105,13 +105,13 @@ Words s at count weights seen₀ r seen sums =
     → Tells s (wordsIn rules count before [] (drop at s)) r (λ own k. (k ≡ count) × (length own ≡ count) × SeenIs seen (before ++ own) × Sums weights own sums)
 
 refused-word : {X : Type 0} (n : ℕ) (r : Read ℕ) (rule : ℕ → Check) (f : ℕ → List ℕ → Read X)
-    → then r (λ w rest. when (rule w) (yes w rest)) ≡ no n → then r (λ w rest. when (rule w) (f w rest)) ≡ no n
-refused-word n (no m) rule f e = ap no (cc)
-refused-word n (yes w rest) rule f e = go (rule w) e
+    → then r (λ w rest. when (rule w) (took w rest)) ≡ denied n → then r (λ w rest. when (rule w) (f w rest)) ≡ denied n
+refused-word n (denied m) rule f e = ap denied (cc)
+refused-word n (took w rest) rule f e = go (rule w) e
   where
-    go : (c : Check) → when c (yes w rest) ≡ no n → when c (f w rest) ≡ no n
+    go : (c : Check) → when c (took w rest) ≡ denied n → when c (f w rest) ≡ denied n
     go right e = let z : _≡_ {A = ℕ} 0 1 = cc in absurd (omega arith)
-    go (wrong m) e = ap no (cc)
+    go (wrong m) e = ap denied (cc)
 
 module _ (s : List ℕ) (at count : ℕ) (weights seen₀ : List ℕ) where
   pub start : count ≤ 256 → Weights weights → length seen₀ ≡ 256 → (sums₀ : List ℕ) → length sums₀ ≡ 257 → Inv s at count weights seen₀ seen₀ (set sums₀ 0 0) at 0 0

@@ -8,9 +8,10 @@ use lib.Dec.{leb}
 use Rattle.lists.specs.declared.Header.{Header}
 use Rattle.lists.specs.Values.{PeriodicList, cyclesOf}
 use Rattle.lists.specs.Rules.{Check, unless, also, rules}
-use Rattle.lists.specs.Reading.{Read, then, when, yes, cyclesIn, listIn}
+use Rattle.lists.specs.Reading.{Read, then, when, took, cyclesIn, listIn}
 use Rattle.lists.specs.Sends.{overfull, crowded}
 
+-- "Nothing follows"
 abbrev pub none : List ℕ → Bool
 none [] = true
 none (b ∷ rest) = false
@@ -19,8 +20,9 @@ none (b ∷ rest) = false
 unfoldable pub ending : PeriodicList → List ℕ → Check
 ending l rest = also (unless 11 (none rest)) (also (unless 10 (not (overfull l))) (unless 19 (not (crowded l))))
 
+-- the list that was read, once it passes those checks
 unfoldable pub ended : PeriodicList → List ℕ → Read PeriodicList
-ended l rest = when (ending l rest) (yes l rest)
+ended l rest = when (ending l rest) (took l rest)
 
 -- "1 for the file", "at most 16,384 bytes"; then its numbers; then what follows the last cycle
 unfoldable pub accepted : List ℕ → Read PeriodicList

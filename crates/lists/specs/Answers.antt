@@ -5,7 +5,7 @@ use Prim.Native.Nat.{ℕ}
 use lib.ListN.{length}
 use Rattle.refusals.specs.Told.{Told, gives, refusing, refusal}
 use Rattle.lists.specs.Values.{PeriodicList, wordsOf}
-use Rattle.lists.specs.Reading.{Read, no, yes}
+use Rattle.lists.specs.Reading.{Read, denied, took}
 use Rattle.lists.specs.declared.Header.{Header}
 use Rattle.lists.specs.declared.ListCheck.{ListCheck}
 use Rattle.lists.specs.declared.ListCheck.the-variants.{Accepted, Refused}
@@ -17,5 +17,5 @@ toldCheck (Refused r) = refusing r
 
 -- the same of what a file says
 abbrev pub toldRead : Read PeriodicList → Told
-toldRead (no n) = refusal n
-toldRead (yes l rest) = gives (l .head .ms ∷ l .head .gap ∷ l .head .reserve ∷ length (wordsOf (l .cycles)) ∷ [])
+toldRead (denied n) = refusal n
+toldRead (took l rest) = gives (l .head .ms ∷ l .head .gap ∷ l .head .reserve ∷ length (wordsOf (l .cycles)) ∷ [])

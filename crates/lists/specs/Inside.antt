@@ -17,44 +17,50 @@ use Rattle.lists.specs.declared.Part.{Part}
 use Rattle.lists.specs.declared.Part.the-variants.{Done, Refused}
 use Rattle.lists.specs.Values.{Cycle, wordsOf}
 use Rattle.lists.specs.Rules.{right, fcode, processData, listable, wordRule}
-use Rattle.lists.specs.Reading.{Read, no, yes, then, when, numberIn}
+use Rattle.lists.specs.Reading.{Read, denied, took, then, when, numberIn}
 use Rattle.lists.specs.Sends.{cutBy, subcycle, sentFrom}
 
 -- what an answer with a place says of the bytes s
 abbrev pub readOf : List ℕ → Number → Read ℕ
-readOf s (Value v next) = yes v (drop next s)
-readOf s (Refused-number m) = no (numberOf m)
+readOf s (Value v next) = took v (drop next s)
+readOf s (Refused-number m) = denied (numberOf m)
 
+-- the header that was read, and the bytes after it
 abbrev pub headOf : List ℕ → HeadRead → Read Header
-headOf s (Head h next) = yes h (drop next s)
-headOf s (Refused-head m) = no (numberOf m)
+headOf s (Head h next) = took h (drop next s)
+headOf s (Refused-head m) = denied (numberOf m)
 
 -- an answer tells a reading: the same refusal; or the place of the bytes after it, and Holds of what was read
 unfoldable pub Tells : {X : Type 0} → List ℕ → Read X → Part → (X → ℕ → Type 0) → Type 0
-Tells s (no n) (Refused m) Holds = numberOf m ≡ n
-Tells s (no n) (Done p k) Holds = ⊥
-Tells s (yes x rest) (Refused m) Holds = ⊥
-Tells s (yes x rest) (Done p k) Holds = (rest ≡ drop p s) × Holds x k
+Tells s (denied n) (Refused m) Holds = numberOf m ≡ n
+Tells s (denied n) (Done p k) Holds = ⊥
+Tells s (took x rest) (Refused m) Holds = ⊥
+Tells s (took x rest) (Done p k) Holds = (rest ≡ drop p s) × Holds x k
 
 -- the mark of a word: Process Data by address, Device Status after them
 abbrev pub markBy : Bool → ℕ → ℕ
 markBy true a = a
 markBy false a = 4096 + a
 
+-- the place of a word in the seen-set: Process Data by address, F_code 15 behind them
 unfoldable pub markOf : ℕ → ℕ
 markOf w = markBy (processData w) (w % 4096)
 
+-- some word has this place
 abbrev pub marked : ℕ → List ℕ → Bool
 marked m [] = false
 marked m (w ∷ ws) = eqb (markOf w) m || marked m ws
 
+-- bit k of a number
 abbrev pub bit : ℕ → ℕ → ℕ
 bit k x = x / 2 ^ k % 2
 
+-- a test as a bit
 abbrev pub flag : Bool → ℕ
 flag true = 1
 flag false = 0
 
+-- every word may be listed
 abbrev pub AllListable : List ℕ → Type 0
 AllListable [] = Unit {0}
 AllListable (w ∷ ws) = (listable w ≡ true) × AllListable ws
@@ -67,9 +73,10 @@ pub record SeenIs (seen ws : List ℕ) : Type 0 where
 
 -- a word read after the words before it: 5, then its rule; what is marked after a refusal is not said
 unfoldable pub WordTold : List ℕ → ℕ → List ℕ → Number → List ℕ → Type 0
-WordTold s at before (Value w next) seen = (numberIn (drop at s) ≡ yes w (drop next s)) × (wordRule before w ≡ right) × SeenIs seen (before ++ w ∷ [])
-WordTold s at before (Refused-number m) seen = then (numberIn (drop at s)) (λ w rest. when (wordRule before w) (yes w rest)) ≡ no (numberOf m)
+WordTold s at before (Value w next) seen = (numberIn (drop at s) ≡ took w (drop next s)) × (wordRule before w ≡ right) × SeenIs seen (before ++ w ∷ [])
+WordTold s at before (Refused-number m) seen = then (numberIn (drop at s)) (λ w rest. when (wordRule before w) (took w rest)) ≡ denied (numberOf m)
 
+-- the seen-set marks just these words
 pub record Marked (seen : List ℕ) : Type 0 where
   pub words : List ℕ
   pub is : SeenIs seen words
@@ -103,6 +110,7 @@ pub record Rising (count : ℕ) (sums : List ℕ) : Type 0 where
   pub rise : (i j : ℕ) → i ≤ j → j ≤ count → getD sums i 0 ≤ getD sums j 0
   pub most : (i : ℕ) → i ≤ count → getD sums i 0 ≤ 358517248
 
+-- after n cycles no Basic Period has more than this
 abbrev pub Most : ℕ → List ℕ → Type 0
 Most n load = (j : ℕ) → j < length load → getD load j 0 ≤ 358517248 * n
 
@@ -121,6 +129,7 @@ pub record CycleDone (before weights seen load load' : List ℕ) (c : Cycle) (k 
   pub marks : SeenIs seen (before ++ c .words)
   pub adds : Added weights load load' c
 
+-- every cycle has at most 256 words
 abbrev pub CyclesFew : List Cycle → Type 0
 CyclesFew [] = Unit {0}
 CyclesFew (c ∷ cs) = (length (c .words) ≤ 256) × CyclesFew cs

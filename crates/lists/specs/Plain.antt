@@ -17,6 +17,7 @@ splitsFor (suc n) (suc c) = 2 ^ min (suc n) 10
 unfoldable pub countIn : List ℕ → ℕ
 countIn bytes = getD (run 1 bytes .values) 0 0
 
+-- the bytes after a cycle's count
 unfoldable pub afterCount : List ℕ → List ℕ
 afterCount bytes = drop (run 1 bytes .used) bytes
 

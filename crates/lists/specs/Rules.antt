@@ -25,9 +25,11 @@ also (wrong n) b = wrong n
 abbrev pub fcode : ℕ → ℕ
 fcode w = w / 4096
 
+-- "the low twelve an address"
 abbrev pub address : ℕ → ℕ
 address w = w % 4096
 
+-- a Process Data word has F_code 0 to 4
 abbrev pub processData : ℕ → Bool
 processData w = ltb (fcode w) 5
 
@@ -57,5 +59,6 @@ wordRule before w = also (unless 7 (listable w)) (unless 8 (not (clashes w befor
 abbrev pub splitRule : ℕ → List ℕ → Check
 splitRule count zs = unless 9 (eqb (sum zs) count)
 
+-- the rules of document 01
 abbrev pub rules : Rules
 rules = record { word = wordRule; splits = splitRule }

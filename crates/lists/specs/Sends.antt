@@ -19,6 +19,7 @@ abbrev pub subcycles : List ℕ → List ℕ → List (List ℕ)
 subcycles ws [] = ws ∷ []
 subcycles ws (z ∷ zs) = cutBy ws (z ∷ zs)
 
+-- the words in Subcycle s of a cycle
 unfoldable pub subcycle : Cycle → ℕ → List ℕ
 subcycle c s = getD (subcycles (c .words) (c .splits)) s []
 
@@ -27,6 +28,7 @@ abbrev pub sentFrom : ℕ → ℕ → List Cycle → List ℕ
 sentFrom n j [] = []
 sentFrom n j (c ∷ cs) = subcycle c (j % 2 ^ n) ++ sentFrom (suc n) j cs
 
+-- "Basic Period j sends Subcycle j mod 2^n of each cycle, cycles rising, words in list order"
 abbrev pub sends : PeriodicList → ℕ → List ℕ
 sends l j = sentFrom 0 j (l .cycles)
 

@@ -16,6 +16,7 @@ pub record PeriodicList : Type 0 where
   pub head : Header
   pub cycles : List Cycle
 
+-- the first for 1 ms, the second for 2 ms
 abbrev pub byMs : Bool → ℕ → ℕ → ℕ
 byMs true one two = one
 byMs false one two = two
@@ -33,6 +34,7 @@ abbrev pub wordsOf : List Cycle → List ℕ
 wordsOf [] = []
 wordsOf (c ∷ cs) = c .words ++ wordsOf cs
 
+-- what numbers "add up to"
 abbrev pub sum : List ℕ → ℕ
 sum [] = 0
 sum (x ∷ l) = x + sum l

@@ -13,6 +13,7 @@ use Rattle.lists.specs.Sends.{sends, takes}
 abbrev pub cycleNumbers : Cycle → List ℕ
 cycleNumbers c = length (c .words) ∷ (c .words ++ c .splits)
 
+-- the numbers of all cycles, one after another
 abbrev pub cyclesNumbers : List Cycle → List ℕ
 cyclesNumbers [] = []
 cyclesNumbers (c ∷ cs) = cycleNumbers c ++ cyclesNumbers cs
@@ -44,6 +45,7 @@ Split zero ws zs = zs ≡ []
 Split (suc n) [] zs = zs ≡ []
 Split (suc n) (w ∷ ws) zs = (length zs ≡ 2 ^ suc n) × All (λ z. z ≤ 256) zs × (sum zs ≡ length (w ∷ ws))
 
+-- the rules on a cycle 2^n by itself, its shape among them
 pub record CycleObeys (n : ℕ) (c : Cycle) : Type 0 where
   pub count : length (c .words) ≤ 256
   pub words : All Listable (c .words)
@@ -54,6 +56,7 @@ abbrev pub CyclesObey : ℕ → List Cycle → Type 0
 CyclesObey n [] = Unit {0}
 CyclesObey n (c ∷ cs) = CycleObeys n c × CyclesObey (suc n) cs
 
+-- the rules of document 01 on a list, its shape among them
 pub record Obeys (l : PeriodicList) : Type 0 where
   pub size : length (file l) ≤ 16384
   pub ms : (1 ≤ l .head .ms) × (l .head .ms ≤ 2)

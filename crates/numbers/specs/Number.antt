@@ -17,6 +17,7 @@ abbrev pub under : ℕ → Groups → Groups
 under b cut = cut
 under b (whole v n z) = whole (b - 128 + 128 * v) (n + 1) z
 
+-- "top bit set on every byte but its last"
 abbrev pub byTop : Bool → ℕ → Groups → Groups
 byTop true b g = whole b 1 b
 byTop false b g = under b g
@@ -31,6 +32,7 @@ pub data Taken : Type 0 where
   bad : Taken
   taken : ℕ → ℕ → Taken
 
+-- none where the test holds
 abbrev pub badIf : Bool → Taken → Taken
 badIf true t = bad
 badIf false t = t
@@ -59,6 +61,7 @@ pub record Numbers : Type 0 where
   pub values : List ℕ
   pub used : ℕ
 
+-- a number, and those after it
 abbrev pub first : Taken → (ℕ → Numbers) → Numbers
 first bad more = record { values = []; used = 0 }
 first (taken v n) more = record { values = v ∷ more n .values; used = n + more n .used }

@@ -5,6 +5,7 @@ use mathlib.Core.List.{List, [], _∷_, _++_}
 use mathlib.Core.Bool.{Bool, true, false}
 use lib.Dec.{ltb}
 
+-- the first where the test holds, else the second
 abbrev pub byBool : Bool → List ℕ → List ℕ → List ℕ
 byBool true a b = a
 byBool false a b = b

@@ -15,7 +15,7 @@ use lib.Seq.{take-add, take-all}
 use Rattle.numbers.specs.Written.{Bytes}
 use Rattle.lists.specs.Values.{Cycle, PeriodicList, cyclesOf, periodsOf, byMs, wordsOf, sum}
 use Rattle.lists.specs.Rules.{listable, clash, clashes}
-use Rattle.lists.specs.Reading.{yes}
+use Rattle.lists.specs.Reading.{took}
 use Rattle.lists.specs.Accepts.{accepted}
 use Rattle.lists.specs.Sends.{cutBy, subcycles, subcycle, sentFrom, sends, takes}
 use Rattle.lists.specs.Written.{All, Listable, Clash, Split, CycleObeys, CyclesObey, Obeys}
@@ -252,7 +252,7 @@ abbrev pub cycleAt : PeriodicList → ℕ → Cycle
 cycleAt l n = getD (l .cycles) n (record { words = []; splits = [] })
 
 -- "each of its frames goes out in exactly one Basic Period of any run as long as its cycle"
-pub each-once : (s : List ℕ) (l : PeriodicList) (rest : List ℕ) → Bytes s → accepted s ≡ yes l rest
+pub each-once : (s : List ℕ) (l : PeriodicList) (rest : List ℕ) → Bytes s → accepted s ≡ took l rest
     → (n : ℕ) → n < length (l .cycles) → (w : ℕ) → 0 < times w (cycleAt l n .words) → (a : ℕ) → OnceIn l w a (2 ^ n)
 each-once s l rest k e n h w p a =
     let o : Obeys l = accepted-obeys s l rest k e .0 in
@@ -264,6 +264,6 @@ pub nothing-else : (l : PeriodicList) (w : ℕ) → times w (wordsOf (l .cycles)
 nothing-else l w h j = omega (arith, times-sent w (l .cycles) 0 j)
 
 -- what an accepted Basic Period sends fits beside the reserve
-pub period-fits : (s : List ℕ) (l : PeriodicList) (rest : List ℕ) → Bytes s → accepted s ≡ yes l rest
+pub period-fits : (s : List ℕ) (l : PeriodicList) (rest : List ℕ) → Bytes s → accepted s ≡ took l rest
     → (j : ℕ) → j < periodsOf (l .head .ms) → takes (l .head .gap) (sends l j) + l .head .reserve ≤ 1500 * l .head .ms
 period-fits s l rest k e j h = accepted-obeys s l rest k e .0 .fits j h

@@ -24,7 +24,7 @@ use Rattle.lists.specs.declared.ListCheck.{ListCheck}
 use Rattle.lists.specs.declared.ListCheck.the-variants.{Accepted, Refused}
 use Rattle.lists.specs.declared.CycleAt.{CycleAt}
 use Rattle.lists.specs.Values.{Cycle, PeriodicList, cyclesOf, periodsOf, byMs, wordsOf}
-use Rattle.lists.specs.Reading.{Read, no, yes}
+use Rattle.lists.specs.Reading.{Read, denied, took}
 use Rattle.lists.specs.Sends.{subcycle, sentFrom, sends}
 use Rattle.lists.specs.Accepts.{accepted}
 use Rattle.lists.specs.Answers.{toldCheck, toldRead}
@@ -289,14 +289,14 @@ abbrev pub Answer : List ℕ → ℕ → List ℕ → Told → List ℕ → Type
 Answer s j out told out' =
     (told ≡ periodBy s j (length out) refusal (λ ws. gives (length ws ∷ []))) × (out' ≡ periodBy s j (length out) (λ n. out) (λ ws. ws ++ drop (length ws) out))
 
-is-read : (s : List ℕ) (ms : ℕ) (k : IsList s ms) → accepted s ≡ yes (k .l) []
-is-read s ms k = subst (λ (x : List ℕ). accepted x ≡ yes (k .l) []) (k .written-so) (obeys-accepted (k .l) (k .obeys))
+is-read : (s : List ℕ) (ms : ℕ) (k : IsList s ms) → accepted s ≡ took (k .l) []
+is-read s ms k = subst (λ (x : List ℕ). accepted x ≡ took (k .l) []) (k .written-so) (obeys-accepted (k .l) (k .obeys))
 
 module _ (s : List ℕ) (ms j : ℕ) (out : List ℕ) (k : IsList s ms) where
   pub send-12 : (periods : ℕ) → periods ≡ periodsOf ms → periods ≤ j → Answer s j out (refusal 12) out
   unfolding periodBy
   send-12 periods p h =
-      let a : accepted s ≡ yes (k .l) [] = is-read s ms k in
+      let a : accepted s ≡ took (k .l) [] = is-read s ms k in
       let b : ltb j (periodsOf (k .l .head .ms)) ≡ false = le-ltb j (periodsOf (k .l .head .ms)) (omega (arith, ap periodsOf (k .same))) in
       (rw (a, b), rw (a, b))
 
@@ -319,24 +319,24 @@ module _ (s : List ℕ) (ms j : ℕ) (out : List ℕ) (k : IsList s ms) where
     pub send-4 : length out < m → Answer s j out (refusal 4) out
     unfolding periodBy
     send-4 l =
-        let a : accepted s ≡ yes (k .l) [] = is-read s ms k in
+        let a : accepted s ≡ took (k .l) [] = is-read s ms k in
         let b : leb (length (sends (k .l) j)) (length out) ≡ false = lt-leb (length (sends (k .l) j)) (length out) (omega (arith, count)) in
         (rw (a, here, b), rw (a, here, b))
 
     pub send-yes : m ≤ length out → (out' : List ℕ) → out' ≡ take m sent ++ drop (length (take m sent)) out → Answer s j out (gives (m ∷ [])) out'
     unfolding periodBy
     send-yes l out' q =
-        let a : accepted s ≡ yes (k .l) [] = is-read s ms k in
+        let a : accepted s ≡ took (k .l) [] = is-read s ms k in
         let b : leb (length (sends (k .l) j)) (length out) ≡ true = le-leb (length (sends (k .l) j)) (length out) (omega (arith, count)) in
         (rw (a, here, b) (ap (λ (x : ℕ). gives (x ∷ [])) count), rw (a, here, b) (q ∙ ap (λ (x : List ℕ). x ++ drop (length x) out) words))
 
-told-no : (r : Read PeriodicList) (m : Refusal) → refusing m ≡ toldRead r → r ≡ no (numberOf m)
-told-no (no n) m e = ap no (cc)
-told-no (yes l rest) m e = let z : _≡_ {A = ℕ} 0 1 = cc in absurd (omega arith)
+told-no : (r : Read PeriodicList) (m : Refusal) → refusing m ≡ toldRead r → r ≡ denied (numberOf m)
+told-no (denied n) m e = ap denied (cc)
+told-no (took l rest) m e = let z : _≡_ {A = ℕ} 0 1 = cc in absurd (omega arith)
 
-told-yes : (r : Read PeriodicList) (h : Header) (n : ℕ) → toldCheck (Accepted h n) ≡ toldRead r → (l : PeriodicList) × (rest : List ℕ) × (r ≡ yes l rest) × (h .ms ≡ l .head .ms)
-told-yes (no m) h n e = let z : _≡_ {A = ℕ} 0 1 = cc in absurd (omega arith)
-told-yes (yes l rest) h n e = (l, rest, refl, cc)
+told-yes : (r : Read PeriodicList) (h : Header) (n : ℕ) → toldCheck (Accepted h n) ≡ toldRead r → (l : PeriodicList) × (rest : List ℕ) × (r ≡ took l rest) × (h .ms ≡ l .head .ms)
+told-yes (denied m) h n e = let z : _≡_ {A = ℕ} 0 1 = cc in absurd (omega arith)
+told-yes (took l rest) h n e = (l, rest, refl, cc)
 
 pub bytes-from : (s : List ℕ) → ((i : ℕ) → getD s i 0 < 256) → Bytes s
 bytes-from [] h = tt
@@ -346,7 +346,7 @@ module _ (s : List ℕ) (a : ListCheck) (t : toldCheck a ≡ toldRead (accepted 
   pub list-refused : (m : Refusal) → a ≡ Refused m → (j : ℕ) (out : List ℕ) → Answer s j out (refusing m) out
   unfolding periodBy
   list-refused m e j out =
-      let n : accepted s ≡ no (numberOf m) = told-no (accepted s) m (sym (ap toldCheck e) ∙ t) in
+      let n : accepted s ≡ denied (numberOf m) = told-no (accepted s) m (sym (ap toldCheck e) ∙ t) in
       (rw n, rw n)
 
   pub is-list : Bytes s → (h : Header) (n : ℕ) → a ≡ Accepted h n → IsList s (h .ms)

@@ -5,7 +5,7 @@ use mathlib.Core.Path.{_≡_}
 use mathlib.Core.List.{List, [], _++_}
 use lib.ListN.{length, drop}
 use Rattle.lists.specs.Values.{PeriodicList, sum}
-use Rattle.lists.specs.Reading.{yes}
+use Rattle.lists.specs.Reading.{took}
 use Rattle.lists.specs.Sends.{subcycle, sends}
 use Rattle.lists.specs.Accepts.{accepted}
 use Rattle.lists.specs.Written.{Obeys, file}

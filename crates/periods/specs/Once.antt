@@ -8,6 +8,7 @@ use lib.Dec.{eqb}
 use Rattle.lists.specs.Values.{Cycle, PeriodicList, periodsOf}
 use Rattle.lists.specs.Sends.{sends}
 
+-- a test as a number
 abbrev pub one : Bool → ℕ
 one true = 1
 one false = 0
