@@ -13,7 +13,7 @@ use Rattle.numbers.proofs.WrittenLaws.{written-append}
 use Rattle.lists.specs.declared.CycleAt.{CycleAt}
 use Rattle.lists.specs.Values.{Cycle, PeriodicList, cyclesOf, sum}
 use Rattle.lists.specs.Sends.{subcycles}
-use Rattle.lists.specs.Plain.{CycleRead}
+use Rattle.lists.proofs.PlainLaws.{CycleRead}
 use Rattle.lists.specs.Written.{cycleNumbers, cyclesNumbers, file, CycleObeys, CyclesObey, Obeys}
 use Rattle.lists.proofs.ListLaws.{cycles-most}
 use Rattle.lists.proofs.Acceptance.{one-list}

@@ -13,10 +13,19 @@ use Rattle.numbers.proofs.RunLaws.{Done}
 use Rattle.numbers.proofs.WrittenLaws.{Most, run-back, written-append}
 use Rattle.lists.specs.declared.CycleAt.{CycleAt}
 use Rattle.lists.specs.Values.{Cycle}
-use Rattle.lists.specs.Plain.{splitsFor, countIn, afterCount, wordsRun, splitsRun, over, CycleRead}
+use Rattle.lists.specs.Plain.{splitsFor, countIn, afterCount, wordsRun, splitsRun, over, cycleAt}
 use Rattle.lists.specs.Written.{cycleNumbers, All, Listable, Split, CycleObeys}
 use Rattle.lists.proofs.ClashLaws.{prop-listable}
 use Rattle.lists.proofs.WasLaws.{listable-most}
+
+-- what `cycle_at` promises of its answer and of what was lent to it
+abbrev pub CycleRead : ℕ → List ℕ → ℕ → CycleAt → List ℕ → List ℕ → List ℕ → List ℕ → Type 0
+CycleRead n bytes at r words words' splits splits' =
+    (r ≡ cycleAt n bytes at (length words) (length splits)) × (words' ≡ over (wordsRun (length words) bytes) words) × (splits' ≡ over (splitsRun n (length words) (length splits) bytes) splits)
+
+-- equal field by field
+same-cycle : {w z p v y q : ℕ} → w ≡ v → z ≡ y → p ≡ q → _≡_ {A = CycleAt} (record { words = w; splits = z; next = p }) (record { words = v; splits = y; next = q })
+same-cycle e₁ e₂ e₃ = cc
 
 pub no-splits : (n count : ℕ) → count ≡ 0 → (0 ≡ splitsFor n count) × (0 ≤ 1024)
 no-splits zero count e = (refl, omega arith)
@@ -102,14 +111,15 @@ module _ (s : List ℕ) (at n : ℕ) (words splits first' : List ℕ) (c₁ p₁
   few-splits = omega (arith, run-few (length (take k splits)) (drop p₂ s), length-take-le k splits k-room)
 
   pub cycle-read : CycleRead n (drop at s) at (record { words = c₂; splits = c₃; next = p₃ }) words (part₂ ++ drop many words) splits (part₃ ++ drop k splits)
-  cycle-read =
-      record {
-        words-count = b .0 ∙ ap (λ (x : Numbers). length (x .values)) words-run;
-        splits-count = c .0 ∙ ap (λ (x : Numbers). length (x .values)) splits-run;
-        next = omega (arith, a .1, b .1, c .1, ap (λ (x : Numbers). x .used) words-run, ap (λ (x : Numbers). x .used) splits-run);
-        words-are = ap (λ (x : List ℕ). x ++ drop many words) (b .2) ∙ part-over (run (length (take many words)) (drop p₁ s)) many words many-room few-words ∙ ap (λ (x : Numbers). over x words) words-run;
-        splits-are = ap (λ (x : List ℕ). x ++ drop k splits) (c .2) ∙ part-over (run (length (take k splits)) (drop p₂ s)) k splits k-room few-splits ∙ ap (λ (x : Numbers). over x splits) splits-run;
-      }
+  unfolding cycleAt
+  cycle-read = (
+    same-cycle
+        (b .0 ∙ ap (λ (x : Numbers). length (x .values)) words-run)
+        (c .0 ∙ ap (λ (x : Numbers). length (x .values)) splits-run)
+        (omega (arith, a .1, b .1, c .1, ap (λ (x : Numbers). x .used) words-run, ap (λ (x : Numbers). x .used) splits-run)),
+    ap (λ (x : List ℕ). x ++ drop many words) (b .2) ∙ part-over (run (length (take many words)) (drop p₁ s)) many words many-room few-words ∙ ap (λ (x : Numbers). over x words) words-run,
+    ap (λ (x : List ℕ). x ++ drop k splits) (c .2) ∙ part-over (run (length (take k splits)) (drop p₂ s)) k splits k-room few-splits ∙ ap (λ (x : Numbers). over x splits) splits-run,
+  )
 
 -- ---- a cycle that obeys the rules, in a file that is written so
 most-append : (us vs : List ℕ) → Most us → Most vs → Most (us ++ vs)
@@ -180,16 +190,16 @@ module _ (n : ℕ) (c : Cycle) (o : CycleObeys n c) (h : n ≤ 10) (t : List ℕ
       → CycleRead n (written (cycleNumbers c) ++ t) at r words words' splits splits'
       → (r .words ≡ length (c .words)) × (r .splits ≡ length (c .splits)) × (r .next ≡ at + length (written (cycleNumbers c)))
       × (words' ≡ c .words ++ drop (length (c .words)) words) × (splits' ≡ c .splits ++ drop (length (c .splits)) splits)
-  unfolding bytes
+  unfolding bytes cycleAt
   cycle-there at r words words' splits splits' lw ls d =
       let w : wordsRun (length words) bytes ≡ record { values = c .words; used = length (written (c .words)) } = ap (λ (k : ℕ). wordsRun k bytes) lw ∙ words-here in
       let z : splitsRun n (length words) (length splits) bytes ≡ record { values = c .splits; used = length (written (c .splits)) } =
       ap (λ (k : ℕ). splitsRun n k (length splits) bytes) lw ∙ ap (λ (k : ℕ). splitsRun n 256 k bytes) ls ∙ splits-here in (
-        d .words-count ∙ ap (λ (x : Numbers). length (x .values)) w,
-        d .splits-count ∙ ap (λ (x : Numbers). length (x .values)) z,
+        ap (λ (x : CycleAt). x .words) (d .0) ∙ ap (λ (x : Numbers). length (x .values)) w,
+        ap (λ (x : CycleAt). x .splits) (d .0) ∙ ap (λ (x : Numbers). length (x .values)) z,
         omega (
           arith,
-          d .next,
+          ap (λ (x : CycleAt). x .next) (d .0),
           ap (λ (x : Numbers). x .used) count-run,
           ap (λ (x : Numbers). x .used) w,
           ap (λ (x : Numbers). x .used) z,
@@ -197,6 +207,6 @@ module _ (n : ℕ) (c : Cycle) (o : CycleObeys n c) (h : n ≤ 10) (t : List ℕ
           ap length (written-append (c .words) (c .splits)),
           length-append (written (c .words)) (written (c .splits)),
         ),
-        d .words-are ∙ ap (λ (x : Numbers). over x words) w,
-        d .splits-are ∙ ap (λ (x : Numbers). over x splits) z,
+        d .1 ∙ ap (λ (x : Numbers). over x words) w,
+        d .2 ∙ ap (λ (x : Numbers). over x splits) z,
       )

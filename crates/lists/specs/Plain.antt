@@ -33,10 +33,11 @@ splitsRun n room places bytes = run (min (splitsFor n (countIn bytes)) places) (
 abbrev pub over : Numbers → List ℕ → List ℕ
 over r old = r .values ++ drop (length (r .values)) old
 
--- what reading the cycle 2^n at a place answers and writes
-pub record CycleRead (n : ℕ) (bytes : List ℕ) (at : ℕ) (r : CycleAt) (words words' splits splits' : List ℕ) : Type 0 where
-  pub words-count : r .words ≡ length (wordsRun (length words) bytes .values)
-  pub splits-count : r .splits ≡ length (splitsRun n (length words) (length splits) bytes .values)
-  pub next : r .next ≡ at + run 1 bytes .used + wordsRun (length words) bytes .used + splitsRun n (length words) (length splits) bytes .used
-  pub words-are : words' ≡ over (wordsRun (length words) bytes) words
-  pub splits-are : splits' ≡ over (splitsRun n (length words) (length splits) bytes) splits
+-- how many words and split numbers of the cycle 2^n are read, with so many places for each, and the place after them
+unfoldable pub cycleAt : ℕ → List ℕ → ℕ → ℕ → ℕ → CycleAt
+cycleAt n bytes at room places =
+    record {
+      words = length (wordsRun room bytes .values);
+      splits = length (splitsRun n room places bytes .values);
+      next = at + run 1 bytes .used + wordsRun room bytes .used + splitsRun n room places bytes .used;
+    }

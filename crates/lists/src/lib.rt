@@ -21,7 +21,7 @@ ghost use lib.ListN.{length, drop};
 ghost use Rattle.lists.specs.Values.{Cycle, cyclesOf, periodsOf};
 ghost use Rattle.lists.specs.Accepts.{accepted, ended, afterHeader};
 ghost use Rattle.lists.specs.Answers.{toldCheck, toldRead};
-ghost use Rattle.lists.specs.Plain.{splitsFor, CycleRead};
+ghost use Rattle.lists.specs.Plain.{splitsFor, wordsRun, splitsRun, over, cycleAt};
 ghost use Rattle.lists.specs.Inside.{GoodHead, WeightsOf, Loaded};
 
 pub struct Header {
@@ -151,7 +151,9 @@ fn splits_for(n: usize, count: usize) -> usize
 
 // The cycle 2^n that stands at a place, with no check: its words and split numbers, as far as they go and there are places for them.
 pub fn cycle_at(list: &[u8], at: usize, n: usize, words: &mut [u16], splits: &mut [u16]) -> CycleAt
-    ensures { λ r. ⌜ CycleRead n (drop at (now (list .entry))) at r (now (words .entry)) (now (words .exit)) (now (splits .entry)) (now (splits .exit)) ⌝ }
+    ensures { λ r. ⌜ (r ≡ cycleAt n (drop at (now (list .entry))) at (length (now (words .entry))) (length (now (splits .entry))))
+        × (now (words .exit) ≡ over (wordsRun (length (now (words .entry))) (drop at (now (list .entry)))) (now (words .entry)))
+        × (now (splits .exit) ≡ over (splitsRun n (length (now (words .entry))) (length (now (splits .entry))) (drop at (now (list .entry)))) (now (splits .entry))) ⌝ }
 {
     let mut first = [0u16; 1];
     let c = read_numbers(list, at, &mut first);

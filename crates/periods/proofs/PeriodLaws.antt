@@ -28,7 +28,7 @@ use Rattle.lists.specs.Reading.{Read, denied, took}
 use Rattle.lists.specs.Sends.{subcycle, sentFrom, sends}
 use Rattle.lists.specs.Accepts.{accepted}
 use Rattle.lists.specs.Answers.{toldCheck, toldRead}
-use Rattle.lists.specs.Plain.{CycleRead}
+use Rattle.lists.proofs.PlainLaws.{CycleRead}
 use Rattle.lists.specs.Written.{cycleNumbers, cyclesNumbers, listNumbers, file, CycleObeys, CyclesObey, Obeys}
 use Rattle.lists.proofs.SentLaws.{sent-snoc}
 use Rattle.lists.proofs.ListLaws.{cycles-most}
