@@ -1,11 +1,13 @@
-/* compare SEED            a gate run: so many turns of each topic, and every answer of every function seen
- * compare SEED SECONDS    all topics in turn until the time is over */
+/* compare SEED                a gate run: so many turns of each topic, and every answer of every function seen
+ * compare SEED TOPIC          the same of one topic
+ * compare SEED for SECONDS    all topics in turn until the time is over */
 #include "compare.h"
 
 #include "report.h"
 
 #include <stdio.h>
 #include <stdlib.h>
+#include <string.h>
 #include <time.h>
 
 enum { GATE_SECONDS = 1200, TURNS_AT_ONCE = 64 };
@@ -88,10 +90,13 @@ static int print_topic(const struct topic *topic, double seconds)
     return all;
 }
 
-static int gate_run(void)
+/* Of all topics, or of the one with that name. */
+static int gate_run(const char *name)
 {
     int all = 1;
     for (size_t i = 0; i < TOPICS; i++) {
+        if (name != NULL && strcmp(topics[i]->name, name) != 0)
+            continue;
         double start = seconds_now();
         take_turns(i, 0, topics[i]->gate_turns);
         all &= print_topic(topics[i], seconds_now() - start);
@@ -118,16 +123,16 @@ static void run_for(double seconds)
 
 int main(int argc, char **argv)
 {
-    if (argc < 2 || argc > 3) {
-        fprintf(stderr, "usage: compare SEED [SECONDS]\n");
+    if (argc < 2 || argc > 4) {
+        fprintf(stderr, "usage: compare SEED [TOPIC | for SECONDS]\n");
         return 2;
     }
     origin.seed = strtoull(argv[1], NULL, 10);
-    if (argc == 2) {
+    if (argc < 4) {
         watch(GATE_SECONDS);
-        return gate_run() ? 0 : 1;
+        return gate_run(argc == 3 ? argv[2] : NULL) ? 0 : 1;
     }
-    double seconds = strtod(argv[2], NULL);
+    double seconds = strtod(argv[3], NULL);
     watch((unsigned)seconds + 120);
     run_for(seconds);
     return 0;
