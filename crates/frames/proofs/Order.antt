@@ -14,7 +14,9 @@ use Rattle.frames.specs.Rows.{reserved, dataBytes, blocks, blockBytes, f
 use Rattle.frames.specs.Blocks.{rightBlocks, dataIn, framed}
 use Rattle.frames.specs.Master.{masterFrame, masterRead, masterWriteBy, masterWrite, masterWriteOut}
 use Rattle.frames.specs.Slave.{slaveFrame, slaveData, slaveReadBy, slaveRead, slaveReadOut, slaveWriteBy, slaveWrite, slaveWriteOut}
-use Rattle.frames.specs.Line.{silence, reply, collision, lineAnswer}
+use Rattle.frames.specs.Answers.{toldLine}
+use Rattle.frames.specs.Line.{answerOf, lineAnswer}
+use Rattle.frames.specs.declared.LineAnswer.the-variants.{Silence, Reply, Collision}
 use Rattle.frames.proofs.Rows.{full, whole}
 
 -- ---- what the code's test of `allowed` shows
@@ -98,12 +100,12 @@ module _ (f : ℕ) (w out : List ℕ) {allowed : Bool} {d size-of-frame count si
         (write-4 f w (length out) refusal _ allows (b ∙ s .1) c', write-4 f w (length out) (λ k. out) _ allows (b ∙ s .1) c')
 
     pub slave-write-done : length w ≡ d → size-of-frame ≤ length out
-        → (gives (size-of-frame ∷ []) ≡ slaveWrite f w (length out)) × (framed count size w ++ drop (count * (size + 1)) out ≡ slaveWriteOut f w out)
+        → (out₁ : List ℕ) → out₁ ≡ framed count size w ++ drop (count * (size + 1)) out → (gives (size-of-frame ∷ []) ≡ slaveWrite f w (length out)) × (out₁ ≡ slaveWriteOut f w out)
     unfolding slaveWrite slaveWriteOut slaveFrame
-    slave-write-done b c =
+    slave-write-done b c out₁ e =
         let c' : frameBytes f ≤ length out = omega (arith, s .2) in (
           ap (λ (n : ℕ). gives (n ∷ [])) (s .2) ∙ write-done f w (length out) refusal (gives (frameBytes f ∷ [])) allows (b ∙ s .1) c',
-          ap₂ _++_ (ap₂ (λ (k n : ℕ). framed k n w) (s .3) (s .4)) (ap (λ (k : ℕ). drop k out) (ap₂ (λ (k n : ℕ). k * (n + 1)) (s .3) (s .4) ∙ whole f))
+          e ∙ ap₂ _++_ (ap₂ (λ (k n : ℕ). framed k n w) (s .3) (s .4)) (ap (λ (k : ℕ). drop k out) (ap₂ (λ (k n : ℕ). k * (n + 1)) (s .3) (s .4) ∙ whole f))
               ∙ write-done f w (length out) (λ k. out) (slaveFrame f w ++ drop (frameBytes f) out) allows (b ∙ s .1) c',
         )
 
@@ -124,12 +126,12 @@ module _ (f : ℕ) (w out : List ℕ) {allowed : Bool} {d size-of-frame count si
           (read-4 f w (length out) refusal _ allows (b ∙ s .2) (right-is c) g', read-4 f w (length out) (λ k. out) _ allows (b ∙ s .2) (right-is c) g')
 
       pub slave-read-done : right ≡ count → d ≤ length out
-          → (gives (d ∷ []) ≡ slaveRead f w (length out)) × (dataIn count size w ++ drop (count * size) out ≡ slaveReadOut f w out)
+          → (out₁ : List ℕ) → out₁ ≡ dataIn count size w ++ drop (count * size) out → (gives (d ∷ []) ≡ slaveRead f w (length out)) × (out₁ ≡ slaveReadOut f w out)
       unfolding slaveRead slaveReadOut slaveData
-      slave-read-done c g =
+      slave-read-done c g out₁ e =
           let g' : dataBytes f ≤ length out = omega (arith, s .1) in (
             ap (λ (n : ℕ). gives (n ∷ [])) (s .1) ∙ read-done f w (length out) refusal (gives (dataBytes f ∷ [])) allows (b ∙ s .2) (right-is c) g',
-            ap₂ _++_ (ap₂ (λ (k n : ℕ). dataIn k n w) (s .3) (s .4)) (ap (λ (k : ℕ). drop k out) (ap₂ (λ (k n : ℕ). k * n) (s .3) (s .4) ∙ full f))
+            e ∙ ap₂ _++_ (ap₂ (λ (k n : ℕ). dataIn k n w) (s .3) (s .4)) (ap (λ (k : ℕ). drop k out) (ap₂ (λ (k n : ℕ). k * n) (s .3) (s .4) ∙ full f))
                 ∙ read-done f w (length out) (λ k. out) (slaveData f w ++ drop (dataBytes f) out) allows (b ∙ s .2) (right-is c) g',
           )
 
@@ -146,12 +148,12 @@ module _ (w : List ℕ) where
   unfolding masterRead
   master-read-1 a = simp (ne-eqb (length w) 3 a)
 
-  pub line-none : length w ≡ 0 → silence ≡ lineAnswer w
-  unfolding lineAnswer
+  pub line-none : length w ≡ 0 → toldLine Silence ≡ lineAnswer w
+  unfolding answerOf
   line-none a = simp (eq-eqb (length w) 0 a)
 
-  pub line-length : (length w ≡ 0 → ⊥) → (length w ≡ 3 → ⊥) → collision ≡ lineAnswer w
-  unfolding lineAnswer
+  pub line-length : (length w ≡ 0 → ⊥) → (length w ≡ 3 → ⊥) → toldLine Collision ≡ lineAnswer w
+  unfolding answerOf
   line-length a b = simp (ne-eqb (length w) 0 a, ne-eqb (length w) 3 b)
 
   module _ (a : length w ≡ 3) {right : ℕ} (r : right ≡ rightBlocks 1 2 w) where
@@ -159,13 +161,13 @@ module _ (w : List ℕ) where
     unfolding masterRead
     master-read-2 b = simp (eq-eqb (length w) 3 a, ne-eqb (rightBlocks 1 2 w) 1 (λ e. b (r ∙ e)))
 
-    pub line-wrong : (length w ≡ 0 → ⊥) → (right ≡ 1 → ⊥) → collision ≡ lineAnswer w
-    unfolding lineAnswer
+    pub line-wrong : (length w ≡ 0 → ⊥) → (right ≡ 1 → ⊥) → toldLine Collision ≡ lineAnswer w
+    unfolding answerOf
     line-wrong z b = simp (ne-eqb (length w) 0 z, eq-eqb (length w) 3 a, ne-eqb (rightBlocks 1 2 w) 1 (λ e. b (r ∙ e)))
 
     module _ (b : right ≡ 1) (word : ℕ) (e : word ≡ wordIn w) where
-      pub line-reply : (length w ≡ 0 → ⊥) → reply word ≡ lineAnswer w
-      unfolding lineAnswer
+      pub line-reply : (length w ≡ 0 → ⊥) → toldLine (Reply word) ≡ lineAnswer w
+      unfolding answerOf
       line-reply z = simp (ne-eqb (length w) 0 z, eq-eqb (length w) 3 a, eq-eqb (rightBlocks 1 2 w) 1 (sym r ∙ b), e)
 
       pub master-read-3 : (f : ℕ) (allowed : Bool) → f ≡ fCode word → allowed ≡ not (reserved f) → not allowed ≡ true → refusal 3 ≡ masterRead w
@@ -191,10 +193,8 @@ module _ (word f : ℕ) (out : List ℕ) (allowed : Bool) (g : f ≡ fCode word)
     unfolding masterWrite masterWriteOut
     master-write-4 b = (simp (allowed-word, lt-ltb (length out) 3 b), simp (allowed-word, lt-ltb (length out) 3 b))
 
-    pub master-write-done : (pair : List ℕ) → pair ≡ wordBytes word → 3 ≤ length out
-        → (gives (3 ∷ []) ≡ masterWrite word (length out)) × (framed 1 2 pair ++ drop 3 out ≡ masterWriteOut word out)
+    pub master-write-done : (pair : List ℕ) → pair ≡ wordBytes word → 3 ≤ length out → (out₁ : List ℕ) → out₁ ≡ framed 1 2 pair ++ drop 3 out
+        → (gives (3 ∷ []) ≡ masterWrite word (length out)) × (out₁ ≡ masterWriteOut word out)
     unfolding masterWrite masterWriteOut masterFrame
-    master-write-done pair e b = (
-      simp (allowed-word, le-ltb (length out) 3 b),
-      ap (λ (p : List ℕ). framed 1 2 p ++ drop 3 out) e ∙ simp (allowed-word, le-ltb (length out) 3 b),
-    )
+    master-write-done pair e b out₁ g₁ =
+        (simp (allowed-word, le-ltb (length out) 3 b), g₁ ∙ ap (λ (p : List ℕ). framed 1 2 p ++ drop 3 out) e ∙ simp (allowed-word, le-ltb (length out) 3 b))

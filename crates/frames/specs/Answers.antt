@@ -2,7 +2,6 @@
 -- Assumes nothing.
 use mathlib.Core.List.{[], _∷_}
 use Rattle.refusals.specs.Told.{Told, gives, refusing}
-use Rattle.frames.specs.Line.{silence, reply, collision}
 use Rattle.frames.specs.declared.MasterRead.{MasterRead}
 use Rattle.frames.specs.declared.MasterRead.the-variants as Read
 use Rattle.frames.specs.declared.Wrote.{Wrote}
@@ -20,8 +19,8 @@ abbrev pub toldWrote : Wrote → Told
 toldWrote (Wrote'.Bytes n) = gives (n ∷ [])
 toldWrote (Wrote'.Refused r) = refusing r
 
--- of the line: "silence, a reply with its word, or a collision"
+-- of the line: "silence, a reply with its word, or a collision", counted from 0
 abbrev pub toldLine : LineAnswer → Told
-toldLine Silence = silence
-toldLine (Reply word) = reply word
-toldLine Collision = collision
+toldLine Silence = gives (0 ∷ [])
+toldLine (Reply word) = gives (1 ∷ word ∷ [])
+toldLine Collision = gives (2 ∷ [])

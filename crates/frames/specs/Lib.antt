@@ -3,6 +3,6 @@ pub mod Rows
 pub mod Blocks
 pub mod Master
 pub mod Slave
-pub mod Line
 pub mod Answers
+pub mod Line
 pub mod Accepted

@@ -1,6 +1,5 @@
 -- `frames::master_write` meets its contract: each way out is one of the order of checks.
 -- Assumes nothing.
-use mathlib.Core.Path.{_∙_}
 use borrow.Author.Needs.{needs}
 use Rattle.frames.proofs.Order.{master-write-3, master-write-4, master-write-done}
 use Rattle.frames.proofs.master_write.Statement.{statement}
@@ -9,8 +8,7 @@ use Rattle.frames.proofs.master_write.Tie as tie
 returns-3 : tie.Need-returns-3
 returns-3 c =
     let room : tie.Else2 = c .before .before .before .before .before .before in
-    let r = master-write-done _ _ _ _ (room .before .before .before .f-code-of .ensures) (room .before .before .allowed .ensures) (room .before .if1 .left) _ (c .before .before .before .before .before .bytes-of .ensures) (room .if2 .left) in
-    (r .0, c .before .before .write-blocks .ensures ∙ r .1)
+    master-write-done _ _ _ _ (room .before .before .before .f-code-of .ensures) (room .before .before .allowed .ensures) (room .before .if1 .left) _ (c .before .before .before .before .before .bytes-of .ensures) (room .if2 .left) _ (c .before .before .write-blocks .ensures)
 
 pub master-write-spec : {M : Type 1} → statement M
 master-write-spec =

@@ -1,6 +1,6 @@
 -- `frames::slave_read` meets its contract: each way out is one of the order of checks.
 -- Assumes nothing.
-use mathlib.Core.Path.{sym, _∙_}
+use mathlib.Core.Path.{sym}
 use native.Mathlib.Nat.{le-of-eq}
 use borrow.Author.Needs.{needs}
 use Rattle.frames.proofs.Order.{frame-within, data-within, slave-read-3, slave-read-1, slave-read-2, slave-read-4, slave-read-done}
@@ -28,8 +28,7 @@ returns-5 c =
     let room : tie.Else4 = c .before .before .before .before in
     let right : tie.Else3 = room .before .before in
     let long : tie.Else2 = right .before .before .before in
-    let r = slave-read-done _ _ _ (long .before .before .before .before .shape-of .ensures) (long .before .before .if1 .left) (long .if2 .left) (right .before .before .right-blocks .ensures) (right .if3 .left) (room .if4 .left) in
-    (r .0, c .before .before .copy-blocks .ensures ∙ r .1)
+    slave-read-done _ _ _ (long .before .before .before .before .shape-of .ensures) (long .before .before .if1 .left) (long .if2 .left) (right .before .before .right-blocks .ensures) (right .if3 .left) (room .if4 .left) _ (c .before .before .copy-blocks .ensures)
 
 pub slave-read-spec : {M : Type 1} → statement M
 slave-read-spec =

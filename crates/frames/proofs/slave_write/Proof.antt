@@ -1,6 +1,6 @@
 -- `frames::slave_write` meets its contract: each way out is one of the order of checks.
 -- Assumes nothing.
-use mathlib.Core.Path.{sym, _∙_}
+use mathlib.Core.Path.{sym}
 use native.Mathlib.Nat.{le-of-eq}
 use borrow.Author.Needs.{needs}
 use Rattle.frames.proofs.Order.{frame-within, data-within, slave-write-3, slave-write-1, slave-write-4, slave-write-done}
@@ -21,8 +21,7 @@ returns-4 : tie.Need-returns-4
 returns-4 c =
     let room : tie.Else3 = c .before .before .before .before in
     let long : tie.Else2 = room .before .before in
-    let r = slave-write-done _ _ _ (long .before .before .before .before .shape-of .ensures) (long .before .before .if1 .left) (long .if2 .left) (room .if3 .left) in
-    (r .0, c .before .before .write-blocks .ensures ∙ r .1)
+    slave-write-done _ _ _ (long .before .before .before .before .shape-of .ensures) (long .before .before .if1 .left) (long .if2 .left) (room .if3 .left) _ (c .before .before .write-blocks .ensures)
 
 pub slave-write-spec : {M : Type 1} → statement M
 slave-write-spec =

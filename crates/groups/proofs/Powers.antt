@@ -1,0 +1,24 @@
+-- Powers of two, as groups have them.
+-- Assumes nothing.
+use mathlib.Core.Path.{_≡_, ap, _∙_, subst}
+use Prim.Native.Nat.{ℕ, suc, _+_, _-_, _/_, _^_, _≤_, _<_}
+use native.Mathlib.Omega.{arith}
+use lib.Pow.{pow-mono, pow-add, shl-shr}
+
+pub at-most : (k : ℕ) → k ≤ 12 → 2 ^ k ≤ 4096
+at-most k h = pow-mono {j = 12} h
+
+pub one-less : (m : ℕ) → m < 12 → 12 - m ≡ suc (11 - m)
+one-less m h = omega arith
+
+pub twice : (m : ℕ) → m < 12 → 2 ^ (12 - m) ≡ 2 ^ (11 - m) + 2 ^ (11 - m)
+twice m h = rw one-less (omega arith)
+
+pub doubled : (k : ℕ) → 2 ^ suc k ≡ 2 ^ k + 2 ^ k
+doubled k = omega arith
+
+-- 4,096 with its last m bits cut off
+pub cut : (m : ℕ) → m ≤ 12 → 4096 / 2 ^ m ≡ 2 ^ (12 - m)
+cut m h =
+    let e : 12 - m + m ≡ 12 = omega arith in
+    subst (λ (n : ℕ). 2 ^ n / 2 ^ m ≡ 2 ^ (12 - m)) e (ap (λ (n : ℕ). n / 2 ^ m) (pow-add 2 (12 - m) m) ∙ shl-shr (2 ^ (12 - m)) m)

@@ -1,0 +1,11 @@
+pub mod Apart
+pub mod Steps
+pub mod Heart
+pub mod Copper
+pub mod Events
+pub mod Runs
+pub mod Any
+pub mod Truth
+pub mod Exists
+pub mod Bytes
+pub mod Demand

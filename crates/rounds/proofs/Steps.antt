@@ -1,0 +1,163 @@
+-- What each way through a step's code returns is what the definition says.
+-- Assumes nothing.
+use mathlib.Core.Path.{_≡_, refl, sym, ap, _∙_}
+use mathlib.Core.Bool.{Bool, true, false, cond, not, _&&_, _||_}
+use mathlib.Core.List.{[], _∷_}
+use mathlib.Core.Logic.{⊎-elim}
+use Prim.Native.Nat.{ℕ, zero, suc, _+_, _-_, _^_, _≤_, _<_}
+use native.Mathlib.Omega.{arith}
+use lib.Dec.{ltb, eqb}
+use borrow.Author.Tests.{lt-ltb, le-ltb, eq-eqb, ne-eqb, ltb-false, not-false}
+use types.Run.{OneOf}
+use denote.Enum.Declared.{tagOf}
+use Rattle.refusals.specs.declared.Refusal.the-variants.{ImpossibleRound}
+use Rattle.frames.specs.declared.LineAnswer.{LineAnswer}
+use Rattle.frames.specs.declared.LineAnswer.the-variants.{Silence, Reply, Collision}
+use Rattle.frames.specs.Words.{fCode, address}
+use Rattle.frames.proofs.LineAnswer.{the-type as answer-type}
+use Rattle.groups.specs.Groups.{isGroup, inGroup, Place, over, at, follows}
+use Rattle.groups.proofs.Follow.{is-group, after-low, after-high, after-all}
+use Rattle.groups.proofs.Powers.{twice}
+use Rattle.rounds.specs.declared.Phase.{Phase}
+use Rattle.rounds.specs.declared.Phase.the-variants.{Asked, Read, Ended}
+use Rattle.rounds.specs.declared.Counts.{Counts}
+use Rattle.rounds.specs.declared.Round.{Round}
+use Rattle.rounds.specs.declared.Step.{Step}
+use Rattle.rounds.specs.declared.Step.the-variants.{Next, End, Refused}
+use Rattle.rounds.specs.Rounds.{countsOf, round, oneRequest, oneRead, oneUnresolved, isGood, judge, ask, stand, goOn, split, heard, isAt, broken, ended, stepBy, stepOf}
+use Rattle.rounds.specs.Inside.{Sound, goodAnswer, resumed}
+
+-- ---- next: up the groups, until one is a lower half
+module _ (m c half m₀ c₀ : ℕ) (k : Counts) (h : m < 12) (p : half ≡ 2 ^ (12 - (m + 1))) (i : follows m c ≡ follows m₀ c₀) where
+  half-is : half ≡ 2 ^ (11 - m)
+  half-is = let e : 12 - (m + 1) ≡ 11 - m = omega arith in p ∙ ap (λ (n : ℕ). 2 ^ n) e
+
+  pub next-found : c < half → ask m (c + half) k ≡ goOn m₀ c₀ k
+  next-found s =
+      let s₂ : c < 2 ^ (11 - m) = omega (arith, half-is) in
+      rw (← i, after-low m c h s₂, half-is)
+
+  pub next-up : half ≤ c → follows (m + 1) (c - half) ≡ follows m₀ c₀
+  next-up s =
+      let s₂ : 2 ^ (11 - m) ≤ c = omega (arith, half-is) in
+      rw half-is (sym (after-high m c h s₂) ∙ i)
+
+  pub upper-group : c < half → isGroup m (c + half) ≡ true
+  upper-group s = is-group m (c + half) (omega arith, omega (arith, half-is, twice m h))
+
+  pub group-up : c < 2 ^ (12 - m) → c - half < 2 ^ (12 - (m + 1))
+  group-up l = rw (← p) (omega (arith, half-is, twice m h))
+
+pub next-over : (m c m₀ c₀ : ℕ) (k : Counts) → 12 ≤ m → follows m c ≡ follows m₀ c₀ → stand over k ≡ goOn m₀ c₀ k
+next-over m c m₀ c₀ k l i = ap (λ (p : Place). stand p k) (sym (after-all m c l) ∙ i)
+
+-- ---- split
+pub split-zero : (m c : ℕ) (k : Counts) (s : Step) → m ≡ 0 → s ≡ goOn m c (oneUnresolved k) → s ≡ split m c k
+split-zero zero c k s z e = e
+split-zero (suc m) c k s z e = absurd (let y : suc m ≡ 0 = z in omega arith)
+
+pub split-more : (m c : ℕ) (k : Counts) → ((m ≡ 0) → ⊥) → ask (m - 1) c k ≡ split m c k
+split-more zero c k f = absurd (f refl)
+split-more (suc m) c k f = let z : suc m - 1 ≡ m = omega arith in rw z
+
+-- ---- the answer to a request
+module _ (m c : ℕ) (k : Counts) (a : LineAnswer) (s : Step) where
+  abbrev Heard : Type 0
+  Heard = s ≡ heard (judge m c a) m c k
+
+  pub take-silence : a ≡ Silence → s ≡ goOn m c k → Heard
+  take-silence h e = rw h e
+
+  pub take-collision : a ≡ Collision → s ≡ split m c k → Heard
+  take-collision h e = rw h e
+
+  module _ (w : ℕ) (h : a ≡ Reply w) where
+    good-reply : (b : Bool) → goodAnswer m c a ≡ b → isGood m c w ≡ b
+    good-reply b g = ap (goodAnswer m c) (sym h) ∙ g
+
+    pub take-good : goodAnswer m c a ≡ true → s ≡ Next (round Read m c (oneRead k)) w → Heard
+    take-good g e = rw h (simp (good-reply true g) e)
+
+    pub take-bad : goodAnswer m c a ≡ false → s ≡ split m c k → Heard
+    take-bad g e = rw h (simp (good-reply false g) e)
+
+-- no reply is no good reply
+pub no-reply : (m c : ℕ) (a : LineAnswer) → OneOf (0 ∷ 2 ∷ []) (tagOf answer-type a) → false ≡ goodAnswer m c a
+no-reply m c Silence h = refl
+no-reply m c (Reply w) h = absurd (⊎-elim (λ (x : _≡_ {A = ℕ} 1 0). omega arith) (λ (x : _≡_ {A = ℕ} 1 2). omega arith) h)
+no-reply m c Collision h = refl
+
+pub reply-code : (m c w : ℕ) (a : LineAnswer) (b : Bool) → a ≡ Reply w → fCode w ≡ 12 → b ≡ inGroup m c (address w) → b ≡ goodAnswer m c a
+reply-code m c w a b h e g = rw h (simp (eq-eqb _ _ e) g)
+
+pub reply-other : (m c w : ℕ) (a : LineAnswer) → a ≡ Reply w → ((fCode w ≡ 12) → ⊥) → eqb (fCode w) 12 ≡ goodAnswer m c a
+reply-other m c w a h f = rw h (simp (ne-eqb _ _ f))
+
+-- ---- the answer to a read
+module _ (m c : ℕ) (k : Counts) where
+  where-next : (p : Place) (w : ℕ) (r : Round) → stand p k ≡ Next r w → isAt p ≡ true
+  where-next over w r h = cc
+  where-next (at m₁ c₁) w r h = refl
+
+  where-ended : (p : Place) (r : Round) (j : Counts) → stand p k ≡ End r j → isAt p ≡ false
+  where-ended over r j h = refl
+  where-ended (at m₁ c₁) r j h = cc
+
+  pub resume-refused : (w : ℕ) (r : Round) → goOn m c k ≡ Next r w → 8190 < k .requests → Refused ImpossibleRound ≡ resumed m c k
+  resume-refused w r h l = simp (lt-ltb _ _ l, where-next (follows m c) w r h)
+
+  pub resume-less : k .requests ≤ 8190 → goOn m c k ≡ resumed m c k
+  resume-less l = simp (le-ltb _ _ l)
+
+  pub resume-ended : (r : Round) (j : Counts) → goOn m c k ≡ End r j → goOn m c k ≡ resumed m c k
+  resume-ended r j h = simp (where-ended (follows m c) r j h) (same (ltb 8190 (k .requests)))
+    where
+      same : (b : Bool) → goOn m c k ≡ cond (b && false) (Refused ImpossibleRound) (goOn m c k)
+      same true = refl
+      same false = refl
+
+  never-refused : (p : Place) (n : _) → stand p k ≡ Refused n → ⊥
+  never-refused over n h = let z : _≡_ {A = ℕ} 0 1 = cc in omega arith
+  never-refused (at m₁ c₁) n h = let z : _≡_ {A = ℕ} 0 1 = cc in omega arith
+
+  pub go-on-refused : (n : _) → goOn m c k ≡ Refused n → ⊥
+  go-on-refused n h = never-refused (follows m c) n h
+
+-- ---- the step
+module _ (r : Round) (a : LineAnswer) (s : Step) where
+  pub answer-ended : r .phase ≡ Ended → s ≡ End r (countsOf r) → s ≡ stepOf r a
+  unfolding stepBy
+  answer-ended p e = simp p e
+
+  pub answer-broken : (p : Phase) → r .phase ≡ p → ended p ≡ false → broken r ≡ true → s ≡ Refused ImpossibleRound → s ≡ stepOf r a
+  unfolding stepBy
+  answer-broken p q f b e = simp (q, f, b) e
+
+  pub answer-full : r .phase ≡ Asked → broken r ≡ false → 8190 < r .requests → s ≡ Refused ImpossibleRound → s ≡ stepOf r a
+  unfolding stepBy
+  answer-full p b l e = simp (p, b, lt-ltb _ _ l) e
+
+  pub answer-taken : r .phase ≡ Asked → broken r ≡ false → r .requests ≤ 8190 → s ≡ heard (judge (r .m) (r .c) a) (r .m) (r .c) (oneRequest (countsOf r)) → s ≡ stepOf r a
+  unfolding stepBy
+  answer-taken p b l e = simp (p, b, le-ltb _ _ l) e
+
+  pub answer-resumed : r .phase ≡ Read → broken r ≡ false → s ≡ resumed (r .m) (r .c) (countsOf r) → s ≡ stepOf r a
+  unfolding stepBy
+  answer-resumed p b e = simp (p, b) e
+
+neither : (x y : Bool) → (x || y) ≡ false → (x ≡ false) × (y ≡ false)
+neither true y h = (h, cc)
+neither false y h = (refl, h)
+
+pub unbroken : (r : Round) → broken r ≡ false → (isGroup (r .m) (r .c) ≡ true) × (r .reads + r .unresolved ≤ r .requests)
+unbroken r b = let p = neither (not (isGroup (r .m) (r .c))) _ b in (not-false _ (p .0), ltb-false _ _ (p .1))
+
+pub sound : (r : Round) → broken r ≡ false → r .requests ≤ 8190 → Sound r
+sound r b l = record { group = unbroken r b .0; events = unbroken r b .1; room = l }
+
+-- ---- 18
+pub broken-place : (r : Round) → isGroup (r .m) (r .c) ≡ false → true ≡ broken r
+broken-place r g = simp g
+
+pub broken-counts : (r : Round) → isGroup (r .m) (r .c) ≡ true → ltb (r .requests) (r .reads + r .unresolved) ≡ broken r
+broken-counts r g = simp g

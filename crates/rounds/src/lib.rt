@@ -1,0 +1,227 @@
+// The event round: which devices have an event, asked for group by group.
+mod words;
+
+use frames::LineAnswer;
+use refusals::Refusal;
+ghost use mathlib.Core.Path.{_≡_};
+ghost use mathlib.Core.Bool.{true};
+ghost use Prim.Native.Nat.{_+_, _≤_};
+ghost use Rattle.groups.specs.Groups.{isGroup, over};
+ghost use Rattle.rounds.specs.Rounds.{countsOf, ask as askOf, stand, goOn, split as splitOf, heard, judge, broken as brokenOf, oneRequest, oneRead, round, stepOf, startOf};
+ghost use Rattle.rounds.specs.Inside.{Sound, goodAnswer, resumed};
+ghost use Rattle.rounds.specs.Told.{told};
+
+// What the round waits for: the answer to a request, the answer to a read, or nothing any more.
+pub enum Phase {
+    Asked,
+    Read,
+    Ended,
+}
+
+pub struct Counts {
+    pub requests: u16,
+    pub reads: u16,
+    pub unresolved: u16,
+}
+
+// A round at the group {m, c}.
+pub struct Round {
+    pub phase: Phase,
+    pub m: u16,
+    pub c: u16,
+    pub requests: u16,
+    pub reads: u16,
+    pub unresolved: u16,
+}
+
+// The round and its next word; or the round that has ended, and its counts; or a refusal.
+pub enum Step {
+    Next(Round, u16),
+    End(Round, Counts),
+    Refused(Refusal),
+}
+
+impl Round {
+    // A round that hands out the request for all devices, over these parameter bits.
+    pub fn start(params: u16) -> Step
+        ensures { λ r. ⌜ told r ≡ told (startOf params) ⌝ }
+    {
+        if 4095 < params {
+            return Step::Refused(Refusal::OutOfRange);
+        }
+        let round = Round {
+            phase: Phase::Asked,
+            m: 12,
+            c: 0,
+            requests: 0,
+            reads: 0,
+            unresolved: 0,
+        };
+        Step::Next(round, words::GENERAL_EVENT + params)
+    }
+
+    // Takes the line's answer to the word that was handed out last.
+    pub fn answer(self, answer: LineAnswer) -> Step
+        ensures { λ r. ⌜ told r ≡ told (stepOf self answer) ⌝ }
+    {
+        let phase = self.phase;
+        match phase {
+            Phase::Ended => Step::End(self, self.counts()),
+            Phase::Read => {
+                if self.broken() {
+                    return Step::Refused(Refusal::ImpossibleRound);
+                }
+                self.resume(answer)
+            }
+            Phase::Asked => {
+                if self.broken() || 8190 < self.requests {
+                    return Step::Refused(Refusal::ImpossibleRound);
+                }
+                self.take(answer)
+            }
+        }
+    }
+
+    // The answer to a request, which counts now.
+    fn take(mut self, answer: LineAnswer) -> Step
+        requires { ⌜ Sound self ⌝ }
+        ensures { λ r. ⌜ r ≡ heard (judge (self .m) (self .c) answer) (self .m) (self .c) (oneRequest (countsOf self)) ⌝ }
+    {
+        self.requests = self.requests + 1;
+        let good = self.is_good(answer);
+        match answer {
+            LineAnswer::Silence => self.next(),
+            LineAnswer::Reply(word) => { if good { self.read(word) } else { self.split() } }
+            LineAnswer::Collision => self.split(),
+        }
+    }
+
+    // The answer to a read, whatever it is: on to what follows.
+    fn resume(self, answer: LineAnswer) -> Step
+        requires { ⌜ isGroup (self .m) (self .c) ≡ true ⌝ }
+        ensures { λ r. ⌜ r ≡ resumed (self .m) (self .c) (countsOf self) ⌝ }
+    {
+        let step = match answer {
+            LineAnswer::Silence | LineAnswer::Reply(_) | LineAnswer::Collision => self.next(),
+        };
+        match step {
+            Step::Next(_, _) => {
+                if 8190 < self.requests {
+                    Step::Refused(Refusal::ImpossibleRound)
+                } else {
+                    step
+                }
+            }
+            Step::End(_, _) => step,
+            Step::Refused(_) => step,
+        }
+    }
+
+    // Whether the answer is a good reply to the request for {m, c}.
+    fn is_good(self, answer: LineAnswer) -> bool
+        ensures { λ r. ⌜ r ≡ goodAnswer (self .m) (self .c) answer ⌝ }
+    {
+        let LineAnswer::Reply(word) = answer else {
+            return false;
+        };
+        word / 4096 == 12 && groups::in_group(self.m, self.c, word % 4096)
+    }
+
+    // A good reply: its word is sent as a Master Frame.
+    fn read(self, word: u16) -> Step
+        requires { ⌜ self .reads + 1 ≤ 65535 ⌝ }
+        ensures { λ r. ⌜ r ≡ Step.Next (round Phase.Read (self .m) (self .c) (oneRead (countsOf self))) word ⌝ }
+    {
+        let round = Round {
+            phase: Phase::Read,
+            m: self.m,
+            c: self.c,
+            requests: self.requests,
+            reads: self.reads + 1,
+            unresolved: self.unresolved,
+        };
+        Step::Next(round, word)
+    }
+
+    // Neither silence nor a good reply: the lower half first, the upper follows it; or one device is left unresolved.
+    fn split(mut self) -> Step
+        requires { ⌜ (isGroup (self .m) (self .c) ≡ true) × (self .unresolved + 1 ≤ 65535) ⌝ }
+        ensures { λ r. ⌜ r ≡ splitOf (self .m) (self .c) (countsOf self) ⌝ }
+    {
+        let m = self.m;
+        if m == 0 {
+            self.unresolved = self.unresolved + 1;
+            return self.next();
+        }
+        self.ask(m - 1, self.c)
+    }
+
+    // Goes on: to the upper half, where {m, c} is a lower one, or else to what follows the group of both.
+    fn next(self) -> Step
+        requires { ⌜ isGroup (self .m) (self .c) ≡ true ⌝ }
+        ensures { λ r. ⌜ r ≡ goOn (self .m) (self .c) (countsOf self) ⌝ }
+    {
+        let mut m = self.m;
+        let mut c = self.c;
+        while m < 12 {
+            let half = groups::bound(m + 1);
+            if c < half {
+                return self.ask(m, c + half);
+            }
+            c = c - half;
+            m = m + 1;
+        }
+        self.end()
+    }
+
+    // Hands out the request for the group {m, c}, m at most 11.
+    fn ask(self, m: u16, c: u16) -> Step
+        requires { ⌜ (isGroup m c ≡ true) × (m ≤ 11) ⌝ }
+        ensures { λ r. ⌜ r ≡ askOf m c (countsOf self) ⌝ }
+    {
+        let round = Round {
+            phase: Phase::Asked,
+            m: m,
+            c: c,
+            requests: self.requests,
+            reads: self.reads,
+            unresolved: self.unresolved,
+        };
+        Step::Next(round, words::group_word(m, c))
+    }
+
+    // Ends the round.
+    fn end(self) -> Step
+        ensures { λ r. ⌜ r ≡ stand over (countsOf self) ⌝ }
+    {
+        let round = Round {
+            phase: Phase::Ended,
+            m: 12,
+            c: 0,
+            requests: self.requests,
+            reads: self.reads,
+            unresolved: self.unresolved,
+        };
+        Step::End(round, self.counts())
+    }
+
+    fn counts(self) -> Counts
+        ensures { λ r. ⌜ r ≡ countsOf self ⌝ }
+    {
+        Counts {
+            requests: self.requests,
+            reads: self.reads,
+            unresolved: self.unresolved,
+        }
+    }
+
+    // Whether {m, c} is no group, or reads and unresolved devices are more than the requests.
+    fn broken(self) -> bool
+        ensures { λ r. ⌜ r ≡ brokenOf self ⌝ }
+    {
+        if !groups::is_group(self.m, self.c) {
+            return true;
+        }
+        (self.requests as u32) < (self.reads as u32) + (self.unresolved as u32)
+    }
+}

@@ -1,0 +1,3 @@
+pub mod Apart
+pub mod Tallies
+pub mod Walking

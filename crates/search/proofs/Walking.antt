@@ -1,0 +1,213 @@
+-- Each way through the search of a group, and through the search of the set.
+-- Assumes nothing.
+use mathlib.Core.Path.{_≡_, refl, sym, ap, _∙_, subst}
+use mathlib.Core.Bool.{Bool, true, false}
+use mathlib.Core.List.{List, [], _∷_, _++_, List·Memᴰ, List·Memᴰ·eq-of-singleton}
+use mathlib.Core.List.List·Memᴰ.{List·Memᴰ·head}
+use Prim.Native.Nat.{ℕ, zero, suc, _+_, _-_, _%_, _^_, _≤_, _<_}
+use native.Mathlib.Omega.{arith}
+use native.Mathlib.Nat.{add-zero}
+use lib.Dec.{ltb}
+use lib.ListN.{length, length-append, set, drop}
+use lib.Pow.{pow-mono}
+use borrow.Author.Tests.{lt-ltb, le-ltb, eq-eqb, ne-eqb, ltb-true, ltb-false}
+use Rattle.refusals.specs.Told.{Told, gives, refusal}
+use Rattle.frames.specs.declared.LineAnswer.{LineAnswer}
+use Rattle.frames.specs.declared.LineAnswer.the-variants.{Silence, Reply, Collision}
+use Rattle.frames.specs.Words.{wordOf}
+use Rattle.groups.specs.Groups.{isGroup}
+use Rattle.groups.specs.Sets.{devices, howMany}
+use Rattle.groups.specs.Search.{searchOf}
+use Rattle.groups.proofs.Follow.{Group, is-group, group-is, in-lower, in-upper}
+use Rattle.groups.proofs.Members.{member, listed}
+use Rattle.groups.proofs.Counting.{set-count}
+use Rattle.groups.proofs.Costs.{finds, devices-few, requests-few, once, collided, halved}
+use Rattle.search.specs.Searches.{inSet, searched, written}
+use Rattle.search.specs.Inside.{answerTo, Tally, placed}
+
+-- ---- what a group answers
+module _ (S : ℕ → Bool) (m c count last : ℕ) (g : Group m c) (t : Tally S m c 2 count last) where
+  pub answers-none : count ≡ 0 → Silence ≡ answerTo (devices S m c)
+  answers-none e = go (devices S m c) (sym (t .all (omega arith)) ∙ e)
+    where
+      go : (l : List ℕ) → length l ≡ 0 → Silence ≡ answerTo l
+      go [] h = refl
+      go (a ∷ l) h = absurd (omega arith)
+
+  pub small-one : count ≡ 1 → last < 4096
+  small-one e = t .one (omega arith) .small
+
+  pub answers-one : count ≡ 1 → Reply (wordOf 12 last) ≡ answerTo (devices S m c)
+  answers-one e = go (devices S m c) (sym (t .all (omega arith)) ∙ e) (listed S m c g last (t .one (omega arith)))
+    where
+      go : (l : List ℕ) → length l ≡ 1 → List·Memᴰ last l → Reply (wordOf 12 last) ≡ answerTo l
+      go [] h d = absurd (omega arith)
+      go (a ∷ []) h d = rw (List·Memᴰ·eq-of-singleton d) refl
+      go (a ∷ b ∷ l) h d = absurd (omega arith)
+
+  pub answers-several : (count ≡ 0 → ⊥) → (count ≡ 1 → ⊥) → Collision ≡ answerTo (devices S m c)
+  answers-several f h = go (devices S m c) (let k = t .few in omega arith)
+    where
+      go : (l : List ℕ) → 2 ≤ length l → Collision ≡ answerTo l
+      go [] h = absurd (omega arith)
+      go (a ∷ []) h = absurd (omega arith)
+      go (a ∷ b ∷ l) h = refl
+
+none-there : (l : List ℕ) → answerTo l ≡ Silence → l ≡ []
+none-there [] h = refl
+none-there (a ∷ []) h = cc
+none-there (a ∷ b ∷ l) h = cc
+
+one-there : (l : List ℕ) (w : ℕ) → answerTo l ≡ Reply w → (a : ℕ) × (l ≡ a ∷ []) × (w ≡ wordOf 12 a)
+one-there [] w h = absurd (let z : _≡_ {A = ℕ} 0 1 = cc in omega arith)
+one-there (a ∷ []) w h = (a, refl, cc)
+one-there (a ∷ b ∷ l) w h = absurd (let z : _≡_ {A = ℕ} 0 1 = cc in omega arith)
+
+more-there : (l : List ℕ) → answerTo l ≡ Collision → 2 ≤ length l
+more-there [] h = absurd (let z : _≡_ {A = ℕ} 0 1 = cc in omega arith)
+more-there (a ∷ []) h = absurd (let z : _≡_ {A = ℕ} 0 1 = cc in omega arith)
+more-there (a ∷ b ∷ l) h = omega arith
+
+-- ---- what is written
+placed-append : (out : List ℕ) (at : ℕ) (l k : List ℕ) → placed out at (l ++ k) ≡ placed (placed out at l) (at + length l) k
+placed-append out at [] k = rw add-zero refl
+placed-append out at (a ∷ l) k = let e : at + 1 + length l ≡ at + suc (length l) = omega arith in placed-append (set out at a) (at + 1) l k ∙ rw e refl
+
+placed-cons : (x : ℕ) (out : List ℕ) (at : ℕ) (l : List ℕ) → placed (x ∷ out) (suc at) l ≡ x ∷ placed out at l
+placed-cons x out at [] = refl
+placed-cons x out at (a ∷ l) = let e : suc at + 1 ≡ suc (at + 1) = omega arith in rw e (placed-cons x (set out at a) (at + 1) l)
+
+placed-first : (l out : List ℕ) → length l ≤ length out → placed out 0 l ≡ l ++ drop (length l) out
+placed-first [] out h = refl
+placed-first (a ∷ l) [] h = absurd (omega arith)
+placed-first (a ∷ l) (x ∷ out) h = placed-cons a out 0 l ∙ ap (λ (k : List ℕ). a ∷ k) (placed-first l out (omega arith))
+
+-- ---- the search of {M, C}
+-- what it promises: requests, places filled, the output
+abbrev pub Walks : (ℕ → Bool) → ℕ → ℕ → ℕ → List ℕ → ℕ → ℕ → List ℕ → Type 0
+Walks S m c at out requests filled out₁ =
+    ((requests ≡ searchOf S m c .requests) × (filled ≡ at + length (devices S m c))) × (out₁ ≡ placed out at (devices S m c))
+
+module _ (S : ℕ → Bool) (m c at : ℕ) (out : List ℕ) (a : LineAnswer) (e : a ≡ answerTo (devices S m c)) where
+  pub walk-none : a ≡ Silence → Walks S m c at out 1 at out
+  walk-none k =
+      let l : devices S m c ≡ [] = none-there (devices S m c) (sym e ∙ k) in
+      let n : length (devices S m c) ≡ 0 = ap length l in
+      ((sym (once S m c (omega arith)), omega arith), rw l refl)
+
+  pub room-one : (w : ℕ) → a ≡ Reply w → length (devices S m c) ≡ 1
+  room-one w k = ap length (one-there (devices S m c) w (sym e ∙ k) .1)
+
+  pub walk-one : (w : ℕ) → a ≡ Reply w → isGroup m c ≡ true → Walks S m c at out 1 (at + 1) (set out at (w % 4096))
+  walk-one w k g =
+      let o = one-there (devices S m c) w (sym e ∙ k) in
+      let n = room-one w k in
+      let x = o .0 in
+      let s = member S m c (group-is m c g) x (subst (λ (l : List ℕ). List·Memᴰ x l) (sym (o .1)) (List·Memᴰ·head refl)) .small in
+      let q : w ≡ 49152 + x = o .2 in
+      let v : w % 4096 ≡ x = omega arith in
+      ((sym (once S m c (omega arith)), omega arith), rw (o .1, v) refl)
+
+  module _ (k : a ≡ Collision) (g : isGroup m c ≡ true) where
+    -- a single device does not collide with itself
+    pub no-single : (n : ℕ) × (m ≡ suc n)
+    no-single = go m (more-there (devices S m c) (sym e ∙ k)) (devices-few S m c)
+      where
+        go : (i : ℕ) → 2 ≤ length (devices S m c) → length (devices S m c) ≤ 2 ^ i → (n : ℕ) × (i ≡ suc n)
+        go zero h l = absurd (omega arith)
+        go (suc n) h l = (n, refl)
+
+    less : (n : ℕ) → m ≡ suc n → m - 1 ≡ n
+    less n q = omega arith
+
+    pub group-low : isGroup (m - 1) c ≡ true
+    group-low =
+        let n = no-single in
+        rw (less (n .0) (n .1)) (is-group (n .0) c (in-lower (n .0) c (subst (λ (i : ℕ). Group i c) (n .1) (group-is m c g))))
+
+    pub group-high : (h : ℕ) → h ≡ 2 ^ (12 - m) → isGroup (m - 1) (c + h) ≡ true
+    group-high h p =
+        let n = no-single in
+        let q : h ≡ 2 ^ (12 - suc (n .0)) = subst (λ (i : ℕ). h ≡ 2 ^ (12 - i)) (n .1) p in
+        rw (less (n .0) (n .1), q) (is-group (n .0) _ (in-upper (n .0) c (subst (λ (i : ℕ). Group i c) (n .1) (group-is m c g))))
+
+    -- its devices and its requests are those of both halves
+    module _ (h : ℕ) (p : h ≡ 2 ^ (12 - m)) where
+      split : (devices S m c ≡ devices S (m - 1) c ++ devices S (m - 1) (c + h)) × (searchOf S m c .requests ≡ 1 + (searchOf S (m - 1) c .requests + searchOf S (m - 1) (c + h) .requests))
+      split =
+          let n = no-single in
+          let l = more-there (devices S m c) (sym e ∙ k) in
+          let q : h ≡ 2 ^ (12 - suc (n .0)) = subst (λ (i : ℕ). h ≡ 2 ^ (12 - i)) (n .1) p in
+          let l₂ : 2 ≤ length (devices S (suc (n .0)) c) = subst (λ (i : ℕ). 2 ≤ length (devices S i c)) (n .1) l in
+          rw (less (n .0) (n .1), q)
+          (subst (λ (i : ℕ). (devices S i c ≡ devices S (n .0) c ++ devices S (n .0) (c + 2 ^ (12 - suc (n .0)))) × (searchOf S i c .requests ≡ 1 + (searchOf S (n .0) c .requests + searchOf S (n .0) (c + 2 ^ (12 - suc (n .0))) .requests)))
+          (sym (n .1)) (halved S (n .0) c, collided S (n .0) c l₂))
+
+      lengths : length (devices S m c) ≡ length (devices S (m - 1) c) + length (devices S (m - 1) (c + h))
+      lengths = ap length (split .0) ∙ length-append (devices S (m - 1) c) (devices S (m - 1) (c + h))
+
+      pub room-high : (filled : ℕ) (out₁ : List ℕ) → filled ≡ at + length (devices S (m - 1) c) → length out₁ ≡ length out → at + length (devices S m c) ≤ length out → filled + length (devices S (m - 1) (c + h)) ≤ length out₁
+      room-high filled out₁ x y r = let l = lengths in omega arith
+
+      pub walk-both : (q₁ q₂ f₁ f₂ : ℕ) (out₁ out₂ : List ℕ) → Walks S (m - 1) c at out q₁ f₁ out₁ → Walks S (m - 1) (c + h) f₁ out₁ q₂ f₂ out₂ →
+          Walks S m c at out (1 + (q₁ + q₂)) f₂ out₂
+      walk-both q₁ q₂ f₁ f₂ out₁ out₂ x y =
+          let l = lengths in
+          let b = split .1 in
+          let x₁ = x .0 .0 in
+          let x₂ = x .0 .1 in
+          let y₁ = y .0 .0 in
+          let y₂ = y .0 .1 in (
+            (omega arith, omega arith),
+            y .1 ∙ rw (x .1, x₂) (sym (placed-append out at (devices S (m - 1) c) (devices S (m - 1) (c + h)))) ∙ ap (placed out at) (sym (split .0)),
+          )
+
+      pub requests-fit : (q₁ q₂ : ℕ) → q₁ ≡ searchOf S (m - 1) c .requests → q₂ ≡ searchOf S (m - 1) (c + h) .requests → 1 + (q₁ + q₂) ≤ 8191
+      requests-fit q₁ q₂ x y =
+          let b = split .1 in
+          let t = group-is m c g .0 in
+          let w : 2 ^ suc m ≤ 8192 = pow-mono {j = 13} (omega arith) in
+          omega (arith, requests-few S m c)
+
+    pub room-low : at + length (devices S m c) ≤ length out → at + length (devices S (m - 1) c) ≤ length out
+    room-low r = let l = lengths (2 ^ (12 - m)) refl in omega arith
+
+-- ---- the search of the set
+module _ (bytes out : List ℕ) where
+  abbrev S₀ : ℕ → Bool
+  S₀ = inSet bytes
+
+  abbrev Answers : Told → List ℕ → Type 0
+  Answers told out₁ = (told ≡ searched bytes (length out)) × (out₁ ≡ written bytes out)
+
+  pub set-wrong : ((length bytes ≡ 512) → ⊥) → Answers (refusal 1) out
+  unfolding searched written
+  set-wrong f = (simp (ne-eqb _ _ f), simp (ne-eqb _ _ f))
+
+  module _ (h : length bytes ≡ 512) (k last : ℕ) (t : Tally S₀ 12 0 4096 k last) where
+    -- the count up to 4,096 is the count
+    pub counted : k ≡ howMany S₀ 4096
+    counted = go (ltb k 4096) refl
+      where
+        go : (b : Bool) → ltb k 4096 ≡ b → k ≡ howMany S₀ 4096
+        go true e = t .all (ltb-true _ _ e) ∙ set-count S₀
+        go false e = let l = ltb-false k 4096 e in omega (arith, t .few, t .enough, devices-few S₀ 12 0, set-count S₀)
+
+    pub all-there : k ≡ length (devices S₀ 12 0)
+    all-there = counted ∙ sym (set-count S₀)
+
+    pub set-short : length out < k → Answers (refusal 4) out
+    unfolding searched written
+    set-short l =
+        let l₂ : length out < howMany S₀ 4096 = omega (arith, counted) in
+        (simp (eq-eqb _ _ h, lt-ltb _ _ l₂), simp (eq-eqb _ _ h, lt-ltb _ _ l₂))
+
+    pub set-done : (q f : ℕ) (out₁ : List ℕ) → k ≤ length out → Walks S₀ 12 0 0 out q f out₁ → Answers (gives (q ∷ k ∷ [])) out₁
+    unfolding searched written
+    set-done q f out₁ l w =
+        let l₂ : howMany S₀ 4096 ≤ length out = omega (arith, counted) in
+        let l₃ : length (devices S₀ 12 0) ≤ length out = omega (arith, all-there) in
+        let o = finds S₀ 12 0 in (
+          simp (eq-eqb _ _ h, le-ltb _ _ l₂) (rw (w .0 .0, o, ← all-there) refl),
+          simp (eq-eqb _ _ h, le-ltb _ _ l₂) (rw o (w .1 ∙ placed-first (devices S₀ 12 0) out l₃)),
+        )
