@@ -1,0 +1,146 @@
+-- A round lent as a run of six numbers: what a start and a step leave in it, way out by way out.
+-- Assumes nothing.
+use mathlib.Core.Path.{_≡_, refl, sym, ap, ap₂, _∙_, subst}
+use mathlib.Core.Bool.{Bool, true, false, cond}
+use mathlib.Core.List.{List, [], _∷_, _++_}
+use Prim.Native.Nat.{ℕ, zero, suc, _+_, _≤_, _<_}
+use native.Mathlib.Omega.{arith}
+use borrow.Author.Tests.{lt-ltb, le-ltb}
+use lib.Dec.{ltb}
+use lib.ListN.{length, getD, drop, set}
+use Rattle.refusals.specs.declared.Refusal.{Refusal}
+use Rattle.refusals.specs.declared.Refusal.the-variants.{OutOfRange}
+use Rattle.refusals.specs.Told.{Told, gives, refusal, refusing}
+use Rattle.refusals.specs.Codes.{toldCode}
+use Rattle.refusals.proofs.Codes.{value-told, end-told, refusal-told}
+use Rattle.frames.specs.declared.LineAnswer.{LineAnswer}
+use Rattle.frames.specs.Answers.{toldLine}
+use Rattle.frames.specs.Line.{answerOf, lineAnswer}
+use Rattle.frames.proofs.Apart.{lines-apart}
+use Rattle.groups.specs.Groups.{follows, requestWord}
+use Rattle.rounds.specs.declared.Counts.{Counts}
+use Rattle.rounds.specs.declared.Phase.{Phase}
+use Rattle.rounds.specs.declared.Phase.the-variants.{Asked, Ended}
+use Rattle.rounds.specs.declared.Round.{Round}
+use Rattle.rounds.specs.declared.Step.{Step}
+use Rattle.rounds.specs.declared.Step.the-variants.{Next, End, Refused}
+use Rattle.rounds.specs.Rounds.{countsOf, none, round, stepBy, stepOf, startOf}
+use Rattle.rounds.specs.Told.{phaseNumber, told}
+use Rattle.rounds.proofs.Apart.{steps-apart}
+use Rattle.mvb.specs.Rounds.{phaseOf, roundIn, stored, toldStep, runAfter, startAnswer, startRun, roundAnswer, roundRun}
+
+-- ---- six numbers
+
+pub any-other : (n : ℕ) → (n ≡ 0 → ⊥) → (n ≡ 1 → ⊥) → Ended ≡ phaseOf n
+any-other zero a b = absurd (a refl)
+any-other (suc zero) a b = absurd (b refl)
+any-other (suc (suc n)) a b = refl
+
+six-set : (l : List ℕ) (p m c q r u : ℕ) → 6 ≤ length l → set (set (set (set (set (set l 0 p) 1 m) 2 c) 3 q) 4 r) 5 u ≡ p ∷ m ∷ c ∷ q ∷ r ∷ u ∷ drop 6 l
+six-set [] p m c q r u h = absurd (omega arith)
+six-set (x ∷ []) p m c q r u h = absurd (omega arith)
+six-set (x ∷ y ∷ []) p m c q r u h = absurd (omega arith)
+six-set (x ∷ y ∷ z ∷ []) p m c q r u h = absurd (omega arith)
+six-set (x ∷ y ∷ z ∷ v ∷ []) p m c q r u h = absurd (omega arith)
+six-set (x ∷ y ∷ z ∷ v ∷ w ∷ []) p m c q r u h = absurd (omega arith)
+six-set (x ∷ y ∷ z ∷ v ∷ w ∷ t ∷ l) p m c q r u h = refl
+
+pub loaded : (run : List ℕ) (p : Phase) → p ≡ phaseOf (getD run 0 0)
+    → record { phase = p; m = getD run 1 0; c = getD run 2 0; requests = getD run 3 0; reads = getD run 4 0; unresolved = getD run 5 0 } ≡ roundIn run
+unfolding roundIn
+loaded run p e =
+    ap with-phase e
+  where
+    with-phase : Phase → Round
+    with-phase q = record { phase = q; m = getD run 1 0; c = getD run 2 0; requests = getD run 3 0; reads = getD run 4 0; unresolved = getD run 5 0 }
+
+pub six-stored : (run : List ℕ) (r : Round) (n : ℕ) → n ≡ phaseNumber (r .phase) → 6 ≤ length run
+    → set (set (set (set (set (set run 0 n) 1 (r .m)) 2 (r .c)) 3 (r .requests)) 4 (r .reads)) 5 (r .unresolved) ≡ stored r run
+six-stored run r n e h =
+    six-set run n (r .m) (r .c) (r .requests) (r .reads) (r .unresolved) h
+    ∙ ap (λ (p : ℕ). p ∷ r .m ∷ r .c ∷ r .requests ∷ r .reads ∷ r .unresolved ∷ drop 6 run) e
+
+-- ---- a step
+
+pub step-4 : (run bytes : List ℕ) → length run < 6 → (refusal 4 ≡ roundAnswer run bytes) × (run ≡ roundRun run bytes)
+unfolding roundAnswer roundRun
+step-4 run bytes h = (simp (lt-ltb (length run) 6 h), simp (lt-ltb (length run) 6 h))
+
+-- an ended round answers the end again
+over : (r : Round) (a : LineAnswer) → r .phase ≡ Ended → stepOf r a ≡ End r (countsOf r)
+unfolding stepBy
+over r a e = simp e
+
+again : (n : ℕ) (r : Round) (a : LineAnswer) → 1 < n → r .phase ≡ phaseOf n → toldStep (stepOf r a) ≡ gives []
+again zero r a h e = absurd (omega arith)
+again (suc zero) r a h e = absurd (omega arith)
+again (suc (suc n)) r a h e = ap toldStep (over r a e)
+
+pub step-ended : (run bytes : List ℕ) → 6 ≤ length run → 1 < getD run 0 0 → (gives [] ≡ roundAnswer run bytes) × (run ≡ roundRun run bytes)
+unfolding roundAnswer roundRun roundIn
+step-ended run bytes h g = (
+  sym (again (getD run 0 0) (roundIn run) (answerOf bytes) g refl) ∙ simp (le-ltb (length run) 6 h),
+  simp (le-ltb (length run) 6 h, lt-ltb 1 (getD run 0 0) g),
+)
+
+module _ (run bytes : List ℕ) (h : 6 ≤ length run) (g : getD run 0 0 ≤ 1) {r : Round} (er : r ≡ roundIn run) (a : LineAnswer) (ea : toldLine a ≡ lineAnswer bytes)
+    {step : Step} (es : told step ≡ told (stepOf r a)) where
+  is-step : step ≡ stepOf (roundIn run) (answerOf bytes)
+  is-step = steps-apart step (stepOf r a) es ∙ ap₂ stepOf er (lines-apart a (answerOf bytes) ea)
+
+  pub step-answer : (s : Step) → step ≡ s → toldStep s ≡ roundAnswer run bytes
+  unfolding roundAnswer
+  step-answer s e = ap toldStep (sym e ∙ is-step) ∙ simp (le-ltb (length run) 6 h)
+
+  pub step-run : (s : Step) → step ≡ s → (run₁ : List ℕ) → run₁ ≡ runAfter run s → run₁ ≡ roundRun run bytes
+  unfolding roundRun
+  step-run s e run₁ e₁ = e₁ ∙ ap (runAfter run) (sym e ∙ is-step) ∙ simp (le-ltb (length run) 6 h, le-ltb 1 (getD run 0 0) g)
+
+-- ---- a start
+
+-- the first step of a round
+abbrev begun : ℕ → Step
+begun params = Next (round Asked 12 0 none) (requestWord params 12 0)
+
+module _ (params : ℕ) (run : List ℕ) {step : Step} (es : told step ≡ told (startOf params)) where
+  started : step ≡ startOf params
+  started = steps-apart step (startOf params) es
+
+  -- a word: the parameter bits are within their range
+  within : (r : Round) (w : ℕ) → step ≡ Next r w → ltb 4095 params ≡ false
+  unfolding startOf
+  within r w e = go (ltb 4095 params) (sym e ∙ started)
+    where
+      go : (b : Bool) → Next r w ≡ cond b (Refused OutOfRange) (begun params) → b ≡ false
+      go true q = absurd (let z : _≡_ {A = ℕ} 0 1 = cc in omega arith)
+      go false q = refl
+
+  pub start-4 : (r : Round) (w : ℕ) → step ≡ Next r w → length run < 6 → (refusal 4 ≡ startAnswer params (length run)) × (run ≡ startRun params run)
+  unfolding startAnswer startRun
+  start-4 r w e h = (simp (within r w e, lt-ltb (length run) 6 h), simp (within r w e, lt-ltb (length run) 6 h))
+
+  pub start-done : (r : Round) (w : ℕ) → step ≡ Next r w → 6 ≤ length run → (run₁ : List ℕ) → run₁ ≡ stored r run
+      → (gives (w ∷ []) ≡ startAnswer params (length run)) × (run₁ ≡ startRun params run)
+  unfolding startAnswer startRun
+  start-done r w e h run₁ e₁ = (
+    ap toldStep (sym e ∙ started) ∙ simp (within r w e, le-ltb (length run) 6 h),
+    e₁ ∙ ap (runAfter run) (sym e ∙ started) ∙ simp (within r w e, le-ltb (length run) 6 h),
+  )
+
+  pub start-refused : (n : Refusal) → step ≡ Refused n → (refusing n ≡ startAnswer params (length run)) × (run ≡ startRun params run)
+  unfolding startAnswer startRun startOf
+  start-refused n e = go (ltb 4095 params) (sym e ∙ started)
+    where
+      go : (b : Bool) → Refused n ≡ cond b (Refused OutOfRange) (begun params)
+          → (refusing n ≡ cond b (refusal 6) (cond (ltb (length run) 6) (refusal 4) (toldStep (cond b (Refused OutOfRange) (begun params)))))
+          × (run ≡ cond b run (cond (ltb (length run) 6) run (runAfter run (cond b (Refused OutOfRange) (begun params)))))
+      go true q = (ap toldStep q, refl)
+      go false q = absurd (let z : _≡_ {A = ℕ} 0 1 = cc in omega arith)
+
+  pub start-never-ends : (r : Round) (k : Counts) → step ≡ End r k → ⊥
+  unfolding startOf
+  start-never-ends r k e = go (ltb 4095 params) (sym e ∙ started)
+    where
+      go : (b : Bool) → End r k ≡ cond b (Refused OutOfRange) (begun params) → ⊥
+      go true q = let z : _≡_ {A = ℕ} 0 1 = cc in omega arith
+      go false q = let z : _≡_ {A = ℕ} 0 1 = cc in omega arith

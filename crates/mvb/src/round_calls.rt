@@ -1,0 +1,133 @@
+// The event round and the search, as C calls them. A round is lent as six numbers: phase, M, C, requests, reads, unresolved.
+use refusals::Refusal;
+use rounds::Phase;
+use rounds::Round;
+use rounds::Step;
+use search::Searched;
+ghost use mathlib.Core.Path.{_≡_};
+ghost use Prim.Native.Nat.{_≤_};
+ghost use lib.ListN.{length};
+ghost use Rattle.refusals.specs.Codes.{toldCode};
+ghost use Rattle.rounds.specs.Told.{phaseNumber};
+ghost use Rattle.mvb.specs.Rounds.{phaseOf, roundIn, stored, startAnswer, startRun, roundAnswer, roundRun};
+ghost use Rattle.search.specs.Searches.{written};
+ghost use Rattle.mvb.specs.Searches.{searchAnswer, searchRequests};
+
+// What a round's end is to C.
+const END: u32 = 131072;
+
+fn wide(word: u16) -> u32
+    ensures { λ r. ⌜ r ≡ word ⌝ }
+{
+    word as u32
+}
+
+fn phase_of(number: u16) -> Phase
+    ensures { λ r. ⌜ r ≡ phaseOf number ⌝ }
+{
+    match number {
+        0 => Phase::Asked,
+        1 => Phase::Read,
+        _ => Phase::Ended,
+    }
+}
+
+fn number_of(phase: Phase) -> u16
+    ensures { λ r. ⌜ r ≡ phaseNumber phase ⌝ }
+{
+    match phase {
+        Phase::Asked => 0,
+        Phase::Read => 1,
+        Phase::Ended => 2,
+    }
+}
+
+fn load(run: &[u16]) -> Round
+    requires { ⌜ 6 ≤ length (now run) ⌝ }
+    ensures { λ r. ⌜ r ≡ roundIn (now (run .entry)) ⌝ }
+{
+    Round {
+        phase: phase_of(run[0]),
+        m: run[1],
+        c: run[2],
+        requests: run[3],
+        reads: run[4],
+        unresolved: run[5],
+    }
+}
+
+fn store(round: Round, run: &mut [u16])
+    requires { ⌜ 6 ≤ length (now run) ⌝ }
+    ensures { λ _. ⌜ now (run .exit) ≡ stored round (now (run .entry)) ⌝ }
+{
+    let phase = round.phase;
+    run[0] = number_of(phase);
+    run[1] = round.m;
+    run[2] = round.c;
+    run[3] = round.requests;
+    run[4] = round.reads;
+    run[5] = round.unresolved;
+}
+
+// Starts a round: 6 for the parameter bits, then 4 for a run too short.
+#[no_mangle]
+pub extern "C" fn mvb_round_start(params: u16, run: &mut [u16]) -> u32
+    ensures { λ r. ⌜ (toldCode r ≡ startAnswer params (length (now (run .entry)))) × (now (run .exit) ≡ startRun params (now (run .entry))) ⌝ }
+{
+    let step = Round::start(params);
+    match step {
+        Step::Next(round, word) => {
+            if run.len() < 6 {
+                let short = Refusal::TooShort;
+                return short.code();
+            }
+            store(round, run);
+            wide(word)
+        }
+        Step::End(_, _) => END,
+        Step::Refused(r) => r.code(),
+    }
+}
+
+// Takes the bytes that came for the word handed out last: 4 for a run too short, before all else.
+#[no_mangle]
+pub extern "C" fn mvb_round_answer(run: &mut [u16], bytes: &[u8]) -> u32
+    ensures { λ r. ⌜ (toldCode r ≡ roundAnswer (now (run .entry)) (now (bytes .entry))) × (now (run .exit) ≡ roundRun (now (run .entry)) (now (bytes .entry))) ⌝ }
+{
+    if run.len() < 6 {
+        let short = Refusal::TooShort;
+        return short.code();
+    }
+    if 1 < run[0] {
+        return END;
+    }
+    let round = load(run);
+    let step = round.answer(frames::line_answer(bytes));
+    match step {
+        Step::Next(next, word) => {
+            store(next, run);
+            wide(word)
+        }
+        Step::End(last, _) => {
+            store(last, run);
+            END
+        }
+        Step::Refused(r) => r.code(),
+    }
+}
+
+// Searches a lent set of 512 bytes: the answer is the reads, the requests go to a number that is lent.
+#[no_mangle]
+pub extern "C" fn mvb_search(set: &[u8], out: &mut [u16], requests: &mut u16) -> u32
+    ensures answer { λ r. ⌜ toldCode r ≡ searchAnswer (now (set .entry)) (length (now (out .entry))) ⌝ }
+    ensures order { λ r. ⌜ now (out .exit) ≡ written (now (set .entry)) (now (out .entry)) ⌝ }
+    ensures number { λ r. ⌜ now (requests .exit) ≡ searchRequests (now (set .entry)) (length (now (out .entry))) (now (requests .entry)) ⌝ }
+{
+    match search::search_set(set, out) {
+        Searched::Done(asked, reads) => {
+            *requests = asked;
+            wide(reads)
+        }
+        Searched::Refused(r) => r.code(),
+    }
+}
