@@ -38,6 +38,40 @@ struct calls {
     uint32_t (*tick)(const struct mvb_port *, size_t, uint16_t *, size_t);
 };
 
+/* The topics that the archive has whole (tests/compare/topics). */
+enum {
+#ifdef TOPIC_frames
+    HAS_FRAMES = 1,
+#else
+    HAS_FRAMES = 0,
+#endif
+#ifdef TOPIC_timing
+    HAS_TIMING = 1,
+#else
+    HAS_TIMING = 0,
+#endif
+#ifdef TOPIC_rounds
+    HAS_ROUNDS = 1,
+#else
+    HAS_ROUNDS = 0,
+#endif
+#ifdef TOPIC_search
+    HAS_SEARCH = 1,
+#else
+    HAS_SEARCH = 0,
+#endif
+#ifdef TOPIC_lists
+    HAS_LISTS = 1,
+#else
+    HAS_LISTS = 0,
+#endif
+#ifdef TOPIC_ports
+    HAS_PORTS = 1,
+#else
+    HAS_PORTS = 0,
+#endif
+};
+
 static const struct calls ours = {
 #ifdef TOPIC_frames
     .check_of = mvb_check_of,
@@ -150,9 +184,10 @@ static void make_lists(void)
 {
     struct shape none = {.ms = 1, .gap = 70, .reserve = 525, .f_code = -1};
     struct shape some = {.ms = 1, .gap = 20, .reserve = 400, .f_code = -1, .want = {1, 2, 4, 6, 8, 8, 12, 12, 8, 4, 4}};
-    struct shape most = {.ms = 1, .gap = 4, .reserve = 71, .f_code = 0, .first_fit = 1};
-    for (unsigned n = 0; n < REF_CYCLES; n++)
-        most.want[n] = 256;
+    /* 20 telegrams of 70 bit times in each Basic Period: 1,604 words, the most of a good list for 1 ms. */
+    struct shape most = {.ms = 1, .gap = 4, .reserve = 71, .f_code = 0, .first_fit = 1, .want = {[4] = 68}};
+    for (unsigned n = 5; n < REF_CYCLES; n++)
+        most.want[n] = REF_CYCLE_WORDS;
     make_list(&smallest, &none);
     make_list(&typical, &some);
     make_list(&largest, &most);
@@ -207,6 +242,7 @@ static void make_inputs(void)
 /* A row: so many calls on inputs of one size; the sum of all answers comes back. */
 struct row {
     const char *what, *size, *function;
+    int is_there;
     uint32_t (*run)(const struct calls *calls, const struct row *row, unsigned times);
     size_t bytes;
     uint8_t f_code;
@@ -216,54 +252,64 @@ struct row {
 static uint8_t out[40000];
 static uint16_t words[4096];
 
+/* 0, but only once the answer is known: each call waits for the one before it, as a caller does. */
+static inline size_t after(uint32_t answer)
+{
+    return answer >> 20;
+}
+
 static uint32_t run_check(const struct calls *c, const struct row *row, unsigned times)
 {
-    uint32_t sum = 0;
+    uint32_t sum = 0, last = 0;
     for (unsigned i = 0; i < times; i++)
-        sum += c->check_of(data[i % INPUTS], row->bytes);
+        sum += last = c->check_of(data[i % INPUTS] + after(last), row->bytes);
     return sum;
 }
 
 static uint32_t run_master_read(const struct calls *c, const struct row *row, unsigned times)
 {
-    uint32_t sum = 0;
-    (void)row;
+    uint32_t sum = 0, last = 0;
     for (unsigned i = 0; i < times; i++)
-        sum += c->master_read(master[i % INPUTS], 3);
+        sum += last = c->master_read(master[i % INPUTS] + after(last), row->bytes);
     return sum;
 }
 
 static uint32_t run_master_write(const struct calls *c, const struct row *row, unsigned times)
 {
-    uint32_t sum = 0;
-    (void)row;
-    for (unsigned i = 0; i < times; i++)
-        sum += c->master_write((uint16_t)(i % 20480), out, 3) + out[2];
+    uint32_t sum = 0, last = 0;
+    for (unsigned i = 0; i < times; i++) {
+        last = c->master_write((uint16_t)((i + after(last)) % 20480), out, row->bytes) + out[2];
+        sum += last;
+    }
     return sum;
 }
 
 static uint32_t run_slave_read(const struct calls *c, const struct row *row, unsigned times)
 {
-    uint32_t sum = 0;
-    for (unsigned i = 0; i < times; i++)
-        sum += c->slave_read(row->f_code, frame[row->f_code][i % INPUTS], row->bytes, out, MVB_MOST_DATA) + out[1];
+    uint32_t sum = 0, last = 0;
+    for (unsigned i = 0; i < times; i++) {
+        const uint8_t *bytes = frame[row->f_code][i % INPUTS] + after(last);
+        sum += last = c->slave_read(row->f_code, bytes, row->bytes, out, MVB_MOST_DATA) + out[1];
+    }
     return sum;
 }
 
 static uint32_t run_slave_write(const struct calls *c, const struct row *row, unsigned times)
 {
-    uint32_t sum = 0;
-    for (unsigned i = 0; i < times; i++)
-        sum += c->slave_write(row->f_code, data[i % INPUTS], row->bytes, out, MVB_MOST_FRAME) + out[2];
+    uint32_t sum = 0, last = 0;
+    for (unsigned i = 0; i < times; i++) {
+        const uint8_t *bytes = data[i % INPUTS] + after(last);
+        sum += last = c->slave_write(row->f_code, bytes, row->bytes, out, MVB_MOST_FRAME) + out[2];
+    }
     return sum;
 }
 
 static uint32_t run_guard(const struct calls *c, const struct row *row, unsigned times)
 {
-    uint32_t sum = 0;
+    uint32_t sum = 0, last = 0;
     (void)row;
     for (unsigned i = 0; i < times; i++)
-        sum += c->guard(300, 70, (uint8_t)(i % 5));
+        sum += last = c->guard(300, (uint16_t)(70 + after(last)), (uint8_t)(i % 5));
     return sum;
 }
 
@@ -271,11 +317,12 @@ static uint32_t run_arrive(const struct calls *c, const struct row *row, unsigne
 {
     struct bus *bus = row->input;
     uint16_t word = (uint16_t)(4 * 4096 + bus->table[bus->records - 1].address);
-    uint32_t sum = 0;
-    for (unsigned i = 0; i < times; i++)
-        sum += c->arrive(bus->table, bus->records, bus->store, bus->store_bytes, bus->ages, bus->records, word,
-                         frame[4][i % INPUTS], 36) +
-               bus->store[bus->store_bytes - 1];
+    uint32_t sum = 0, last = 0;
+    for (unsigned i = 0; i < times; i++) {
+        last = c->arrive(bus->table + after(last), bus->records, bus->store, bus->store_bytes, bus->ages,
+                         bus->records, word, frame[4][i % INPUTS], MVB_MOST_FRAME);
+        sum += last + bus->store[bus->store_bytes - 1];
+    }
     return sum;
 }
 
@@ -283,21 +330,22 @@ static uint32_t run_answer(const struct calls *c, const struct row *row, unsigne
 {
     struct bus *bus = row->input;
     struct mvb_port port = bus->table[bus->records - 2];
-    uint32_t sum = 0;
+    uint16_t word = (uint16_t)(4096 * port.f_code + port.address);
+    uint32_t sum = 0, last = 0;
     for (unsigned i = 0; i < times; i++)
-        sum += c->answer(bus->table, bus->records, bus->store, bus->store_bytes,
-                         (uint16_t)(4096 * port.f_code + port.address), out, MVB_MOST_FRAME);
+        sum += last = c->answer(bus->table + after(last), bus->records, bus->store, bus->store_bytes, word, out,
+                                MVB_MOST_FRAME);
     return sum;
 }
 
 static uint32_t run_read(const struct calls *c, const struct row *row, unsigned times)
 {
     struct bus *bus = row->input;
-    uint32_t sum = 0;
+    uint32_t sum = 0, last = 0;
     uint16_t age;
     for (unsigned i = 0; i < times; i++)
-        sum += c->read(bus->table, bus->records, bus->store, bus->store_bytes, bus->ages, bus->records,
-                       bus->table[bus->records - 1].address, out, MVB_MOST_DATA, &age);
+        sum += last = c->read(bus->table + after(last), bus->records, bus->store, bus->store_bytes, bus->ages,
+                              bus->records, bus->table[bus->records - 1].address, out, MVB_MOST_DATA, &age);
     return sum;
 }
 
@@ -305,59 +353,66 @@ static uint32_t run_fill(const struct calls *c, const struct row *row, unsigned 
 {
     struct bus *bus = row->input;
     struct mvb_port port = bus->table[bus->records - 2];
-    uint32_t sum = 0;
+    uint32_t sum = 0, last = 0;
     for (unsigned i = 0; i < times; i++)
-        sum += c->fill(bus->table, bus->records, bus->store, bus->store_bytes, port.address, data[i % INPUTS],
-                       (size_t)2 << port.f_code);
+        sum += last = c->fill(bus->table + after(last), bus->records, bus->store, bus->store_bytes, port.address,
+                              data[i % INPUTS], (size_t)2 << port.f_code);
     return sum;
 }
 
 static uint32_t run_tick(const struct calls *c, const struct row *row, unsigned times)
 {
     struct bus *bus = row->input;
-    uint32_t sum = 0;
+    uint32_t last = 0;
     memset(bus->ages, 0, sizeof bus->ages);
     for (unsigned i = 0; i < times; i++)
-        sum += c->tick(bus->table, bus->records, bus->ages, bus->records);
-    return sum + bus->ages[bus->records - 1];
+        last = c->tick(bus->table + after(last), bus->records, bus->ages, bus->records);
+    return last + bus->ages[bus->records - 1];
 }
 
 static uint32_t run_list_check(const struct calls *c, const struct row *row, unsigned times)
 {
     const struct list *list = row->input;
     uint16_t ms = 0, gap = 0, reserve = 0;
-    uint32_t sum = 0;
-    for (unsigned i = 0; i < times; i++)
-        sum += c->list_check(list->bytes, list->length, &ms, &gap, &reserve) + ms + gap + reserve;
+    uint32_t sum = 0, last = 0;
+    for (unsigned i = 0; i < times; i++) {
+        last = c->list_check(list->bytes + after(last), list->length, &ms, &gap, &reserve);
+        sum += last + ms + gap + reserve;
+    }
     return sum;
 }
 
 static uint32_t run_period(const struct calls *c, const struct row *row, unsigned times)
 {
     const struct list *list = row->input;
-    uint32_t sum = 0;
-    for (unsigned i = 0; i < times; i++)
-        sum += c->basic_period(list->bytes, list->length, (uint16_t)(i * 37 % 1024), words, MVB_MOST_WORDS) + words[0];
+    uint32_t sum = 0, last = 0;
+    for (unsigned i = 0; i < times; i++) {
+        uint16_t j = (uint16_t)(i * 37 % 1024);
+        last = c->basic_period(list->bytes + after(last), list->length, j, words, MVB_MOST_WORDS);
+        sum += last + words[0];
+    }
     return sum;
 }
 
 static uint32_t run_text(const struct calls *c, const struct row *row, unsigned times)
 {
     const struct list *list = row->input;
-    uint32_t sum = 0;
-    for (unsigned i = 0; i < times; i++)
-        sum += c->list_text(list->bytes, list->length, out, sizeof out) + out[5];
+    uint32_t sum = 0, last = 0;
+    for (unsigned i = 0; i < times; i++) {
+        last = c->list_text(list->bytes + after(last), list->length, out, sizeof out);
+        sum += last + out[5];
+    }
     return sum;
 }
 
-/* One step: a collision at a group in the middle. */
+/* One step: a collision at one group after another. */
 static uint32_t run_step(const struct calls *c, const struct row *row, unsigned times)
 {
-    uint32_t sum = 0;
+    uint32_t sum = 0, last = 0;
     (void)row;
     for (unsigned i = 0; i < times; i++) {
         uint16_t round[MVB_ROUND_NUMBERS] = {0, (uint16_t)(i % 12 + 1), 0, 100, 40, 3};
-        sum += c->round_answer(round, MVB_ROUND_NUMBERS, data[i % INPUTS], 4);
+        sum += last = c->round_answer(round, MVB_ROUND_NUMBERS, data[i % INPUTS] + after(last), 4);
     }
     return sum;
 }
@@ -365,12 +420,13 @@ static uint32_t run_step(const struct calls *c, const struct row *row, unsigned 
 static uint32_t run_round(const struct calls *c, const struct row *row, unsigned times)
 {
     const struct event *event = row->input;
-    uint32_t sum = 0;
+    uint32_t sum = 0, last = 0;
     for (unsigned i = 0; i < times; i++) {
         uint16_t round[MVB_ROUND_NUMBERS] = {0};
         sum += c->round_start(0, round, MVB_ROUND_NUMBERS);
         for (unsigned s = 0; s < event->steps; s++)
-            sum += c->round_answer(round, MVB_ROUND_NUMBERS, event->heard[s].bytes, event->heard[s].length);
+            sum += last = c->round_answer(round, MVB_ROUND_NUMBERS, event->heard[s].bytes + after(last),
+                                          event->heard[s].length);
     }
     return sum;
 }
@@ -379,76 +435,62 @@ static uint32_t run_search(const struct calls *c, const struct row *row, unsigne
 {
     const struct event *event = row->input;
     uint16_t requests = 0;
-    uint32_t sum = 0;
-    for (unsigned i = 0; i < times; i++)
-        sum += c->search(event->set, MVB_SET_BYTES, words, 4096, &requests) + requests;
+    uint32_t sum = 0, last = 0;
+    for (unsigned i = 0; i < times; i++) {
+        last = c->search(event->set + after(last), MVB_SET_BYTES, words, 4096, &requests);
+        sum += last + requests;
+    }
     return sum;
 }
 
 /* A series of rows has one name and rising sizes. */
 static const struct row rows[] = {
-    {"check sequence", "2 bytes", "check_of", run_check, 2, 0, NULL},
-    {"check sequence", "8 bytes", "check_of", run_check, 8, 0, NULL},
-    {"check sequence", "64 bytes", "check_of", run_check, 64, 0, NULL},
-    {"check sequence", "256 bytes", "check_of", run_check, 256, 0, NULL},
-    {"Master Frame read", "", "master_read", run_master_read, 3, 0, NULL},
-    {"Master Frame write", "", "master_write", run_master_write, 3, 0, NULL},
-    {"Slave Frame read", "16 bits", "slave_read", run_slave_read, 3, 0, NULL},
-    {"Slave Frame read", "64 bits", "slave_read", run_slave_read, 9, 2, NULL},
-    {"Slave Frame read", "256 bits", "slave_read", run_slave_read, 36, 4, NULL},
-    {"Slave Frame write", "16 bits", "slave_write", run_slave_write, 2, 0, NULL},
-    {"Slave Frame write", "64 bits", "slave_write", run_slave_write, 8, 2, NULL},
-    {"Slave Frame write", "256 bits", "slave_write", run_slave_write, 32, 4, NULL},
-    {"guard", "", "guard", run_guard, 0, 0, NULL},
-    {"arrival, 256 bits", "1 record", "arrive", run_arrive, 0, 0, &bus_1},
-    {"arrival, 256 bits", "16 records", "arrive", run_arrive, 0, 0, &bus_16},
-    {"arrival, 256 bits", "64 records", "arrive", run_arrive, 0, 0, &bus_64},
-    {"arrival, 256 bits", "256 records", "arrive", run_arrive, 0, 0, &bus_256},
-    {"source answers", "16 records", "answer", run_answer, 0, 0, &bus_16},
-    {"source answers", "256 records", "answer", run_answer, 0, 0, &bus_256},
-    {"sink read, 256 bits", "16 records", "read", run_read, 0, 0, &bus_16},
-    {"sink read, 256 bits", "256 records", "read", run_read, 0, 0, &bus_256},
-    {"source filled", "16 records", "fill", run_fill, 0, 0, &bus_16},
-    {"source filled", "256 records", "fill", run_fill, 0, 0, &bus_256},
-    {"tick", "16 records", "tick", run_tick, 0, 0, &bus_16},
-    {"tick", "256 records", "tick", run_tick, 0, 0, &bus_256},
-    {"list check", "smallest", "list_check", run_list_check, 0, 0, &smallest},
-    {"list check", "typical", "list_check", run_list_check, 0, 0, &typical},
-    {"list check", "largest", "list_check", run_list_check, 0, 0, &largest},
-    {"Basic Period", "smallest", "basic_period", run_period, 0, 0, &smallest},
-    {"Basic Period", "typical", "basic_period", run_period, 0, 0, &typical},
-    {"Basic Period", "largest", "basic_period", run_period, 0, 0, &largest},
-    {"list text", "smallest", "list_text", run_text, 0, 0, &smallest},
-    {"list text", "typical", "list_text", run_text, 0, 0, &typical},
-    {"list text", "largest", "list_text", run_text, 0, 0, &largest},
-    {"round step", "a collision", "round_answer", run_step, 0, 0, NULL},
-    {"whole round", "k = 0", "round_answer", run_round, 0, 0, &event_0},
-    {"whole round", "k = 2", "round_answer", run_round, 0, 0, &event_2},
-    {"whole round", "k = 64", "round_answer", run_round, 0, 0, &event_64},
-    {"whole round", "k = 4,096", "round_answer", run_round, 0, 0, &event_4096},
-    {"search", "k = 0", "search", run_search, 0, 0, &event_0},
-    {"search", "k = 2", "search", run_search, 0, 0, &event_2},
-    {"search", "k = 64", "search", run_search, 0, 0, &event_64},
-    {"search", "k = 4,096", "search", run_search, 0, 0, &event_4096},
+    {"check sequence", "2 bytes", "check_of", HAS_FRAMES, run_check, 2, 0, NULL},
+    {"check sequence", "8 bytes", "check_of", HAS_FRAMES, run_check, 8, 0, NULL},
+    {"check sequence", "64 bytes", "check_of", HAS_FRAMES, run_check, 64, 0, NULL},
+    {"check sequence", "256 bytes", "check_of", HAS_FRAMES, run_check, 256, 0, NULL},
+    {"Master Frame read", "", "master_read", HAS_FRAMES, run_master_read, 3, 0, NULL},
+    {"Master Frame write", "", "master_write", HAS_FRAMES, run_master_write, 3, 0, NULL},
+    {"Slave Frame read", "16 bits", "slave_read", HAS_FRAMES, run_slave_read, 3, 0, NULL},
+    {"Slave Frame read", "64 bits", "slave_read", HAS_FRAMES, run_slave_read, 9, 2, NULL},
+    {"Slave Frame read", "256 bits", "slave_read", HAS_FRAMES, run_slave_read, 36, 4, NULL},
+    {"Slave Frame write", "16 bits", "slave_write", HAS_FRAMES, run_slave_write, 2, 0, NULL},
+    {"Slave Frame write", "64 bits", "slave_write", HAS_FRAMES, run_slave_write, 8, 2, NULL},
+    {"Slave Frame write", "256 bits", "slave_write", HAS_FRAMES, run_slave_write, 32, 4, NULL},
+    {"guard", "", "guard", HAS_TIMING, run_guard, 0, 0, NULL},
+    {"arrival, 256 bits", "1 record", "arrive", HAS_PORTS, run_arrive, 0, 0, &bus_1},
+    {"arrival, 256 bits", "16 records", "arrive", HAS_PORTS, run_arrive, 0, 0, &bus_16},
+    {"arrival, 256 bits", "64 records", "arrive", HAS_PORTS, run_arrive, 0, 0, &bus_64},
+    {"arrival, 256 bits", "256 records", "arrive", HAS_PORTS, run_arrive, 0, 0, &bus_256},
+    {"source answers", "16 records", "answer", HAS_PORTS, run_answer, 0, 0, &bus_16},
+    {"source answers", "256 records", "answer", HAS_PORTS, run_answer, 0, 0, &bus_256},
+    {"sink read, 256 bits", "16 records", "read", HAS_PORTS, run_read, 0, 0, &bus_16},
+    {"sink read, 256 bits", "256 records", "read", HAS_PORTS, run_read, 0, 0, &bus_256},
+    {"source filled", "16 records", "fill", HAS_PORTS, run_fill, 0, 0, &bus_16},
+    {"source filled", "256 records", "fill", HAS_PORTS, run_fill, 0, 0, &bus_256},
+    {"tick", "16 records", "tick", HAS_PORTS, run_tick, 0, 0, &bus_16},
+    {"tick", "256 records", "tick", HAS_PORTS, run_tick, 0, 0, &bus_256},
+    {"list check", "smallest", "list_check", HAS_LISTS, run_list_check, 0, 0, &smallest},
+    {"list check", "typical", "list_check", HAS_LISTS, run_list_check, 0, 0, &typical},
+    {"list check", "largest", "list_check", HAS_LISTS, run_list_check, 0, 0, &largest},
+    {"Basic Period", "smallest", "basic_period", HAS_LISTS, run_period, 0, 0, &smallest},
+    {"Basic Period", "typical", "basic_period", HAS_LISTS, run_period, 0, 0, &typical},
+    {"Basic Period", "largest", "basic_period", HAS_LISTS, run_period, 0, 0, &largest},
+    {"list text", "smallest", "list_text", HAS_LISTS, run_text, 0, 0, &smallest},
+    {"list text", "typical", "list_text", HAS_LISTS, run_text, 0, 0, &typical},
+    {"list text", "largest", "list_text", HAS_LISTS, run_text, 0, 0, &largest},
+    {"round step", "a collision", "round_answer", HAS_ROUNDS, run_step, 0, 0, NULL},
+    {"whole round", "k = 0", "round_answer", HAS_ROUNDS, run_round, 0, 0, &event_0},
+    {"whole round", "k = 2", "round_answer", HAS_ROUNDS, run_round, 0, 0, &event_2},
+    {"whole round", "k = 64", "round_answer", HAS_ROUNDS, run_round, 0, 0, &event_64},
+    {"whole round", "k = 4,096", "round_answer", HAS_ROUNDS, run_round, 0, 0, &event_4096},
+    {"search", "k = 0", "search", HAS_SEARCH, run_search, 0, 0, &event_0},
+    {"search", "k = 2", "search", HAS_SEARCH, run_search, 0, 0, &event_2},
+    {"search", "k = 64", "search", HAS_SEARCH, run_search, 0, 0, &event_64},
+    {"search", "k = 4,096", "search", HAS_SEARCH, run_search, 0, 0, &event_4096},
 };
 
 enum { ROWS = sizeof rows / sizeof rows[0] };
-
-static int is_there(const struct row *row)
-{
-    const char *topic_function = row->function;
-    if (strcmp(topic_function, "guard") == 0)
-        return ours.guard != NULL;
-    if (row->run == run_list_check || row->run == run_period || row->run == run_text)
-        return ours.list_check != NULL;
-    if (row->run == run_step || row->run == run_round)
-        return ours.round_answer != NULL;
-    if (row->run == run_search)
-        return ours.search != NULL;
-    if (row->input != NULL)
-        return ours.arrive != NULL;
-    return ours.check_of != NULL;
-}
 
 /* Measuring -------------------------------------------------------------------------------------------------- */
 
@@ -544,7 +586,7 @@ static void print_table(const char *stacks)
     printf("| call                | input       |    ours ns |    peer ns | ratio | Boost (ratio) |  grows | noise | stack  | peer's |\n");
     printf("|---|---|---|---|---|---|---|---|---|---|\n");
     for (const struct row *row = rows; row < rows + ROWS; row++) {
-        if (!is_there(row))
+        if (!row->is_there)
             continue;
         int has_boost = row->run == run_check;
         const struct calls *sides[SIDES] = {&ours, &peer, has_boost ? &boost : NULL};
@@ -569,7 +611,7 @@ static void print_eight_tables(void)
     const struct row *row = &rows[1];
     const struct calls *sides[SIDES] = {&ours, &eight_tables, NULL};
     struct measured m[SIDES];
-    if (!is_there(row))
+    if (!row->is_there)
         return;
     must_agree(row, &ours, &eight_tables);
     measure(row, sides, m);
