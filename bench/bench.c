@@ -572,10 +572,11 @@ static void print_row(const struct row *row, const struct measured m[SIDES], dou
                       int has_boost)
 {
     char beside[48] = "";
+    double spread = m[0].spread > m[1].spread ? m[0].spread : m[1].spread;
     if (has_boost)
         snprintf(beside, sizeof beside, "%.1f (%.2f)", m[2].median, m[0].median / m[2].median);
     printf("| %-19s | %-11s | %10.1f | %10.1f | %5.2f | %-13s | %6.1f | %3.0f %% | %6u | %6u |\n", row->what, row->size,
-           m[0].median, m[1].median, m[0].median / m[1].median, beside, m[0].median / first, 100 * m[0].spread,
+           m[0].median, m[1].median, m[0].median / m[1].median, beside, m[0].median / first, 100 * spread,
            stack_of(stacks, "mvb", row->function), stack_of(stacks, "peer", row->function));
 }
 

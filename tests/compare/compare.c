@@ -46,13 +46,23 @@ void print_origin(void)
            (unsigned long long)origin.turn);
 }
 
-/* Turn t of a topic follows from the seed, the topic and t alone. */
-static void take_turns(size_t which, uint64_t first, uint64_t count)
+/* A topic's number, from its name. */
+static uint64_t number_of(const char *name)
 {
-    origin.topic = topics[which]->name;
+    uint64_t number = 0;
+    for (; *name != 0; name++)
+        number = 31 * number + (unsigned char)*name;
+    return number;
+}
+
+/* Turn t of a topic follows from the seed, the topic and t alone. */
+static void take_turns(const struct topic *topic, uint64_t first, uint64_t count)
+{
+    uint64_t start = (origin.seed << 40) + (number_of(topic->name) << 20);
+    origin.topic = topic->name;
     for (origin.turn = first; origin.turn < first + count; origin.turn++) {
-        chance_from((origin.seed * TOPICS + which) * UINT64_C(1000000007) + origin.turn);
-        topics[which]->turn();
+        chance_from((start ^ origin.turn) * UINT64_C(0xD1342543DE82EF95));
+        topic->turn();
     }
 }
 
@@ -98,7 +108,7 @@ static int gate_run(const char *name)
         if (name != NULL && strcmp(topics[i]->name, name) != 0)
             continue;
         double start = seconds_now();
-        take_turns(i, 0, topics[i]->gate_turns);
+        take_turns(topics[i], 0, topics[i]->gate_turns);
         all &= print_topic(topics[i], seconds_now() - start);
         fflush(stdout);
     }
@@ -112,7 +122,7 @@ static void run_for(double seconds)
     for (size_t i = 0; seconds_now() < end; i = (i + 1) % TOPICS) {
         double until = seconds_now() + 0.1;
         while (seconds_now() < until) {
-            take_turns(i, turns[i], TURNS_AT_ONCE);
+            take_turns(topics[i], turns[i], TURNS_AT_ONCE);
             turns[i] += TURNS_AT_ONCE;
         }
         spent[i] += seconds_now() - until + 0.1;

@@ -71,27 +71,28 @@ static struct {
     struct lent run[MOST_LENT];
 } call;
 
-/* Places for runs: MOST_RUN bytes between two pages that cannot be touched. */
+/* Places for runs: MOST_RUN bytes between two fences, memory that cannot be touched. A fence is as large as the
+ * largest pages of the machines that run this, and begins where such a page does. */
+enum { FENCE = 1 << 16 };
 static struct {
     uint8_t *ours, *second;
     uint8_t before[MOST_RUN];
 } places[MOST_LENT];
 
-static size_t page_bytes(void)
-{
-    return (size_t)sysconf(_SC_PAGESIZE);
-}
-
 static uint8_t *fenced(void)
 {
-    size_t page = page_bytes();
-    uint8_t *all = mmap(NULL, MOST_RUN + 2 * page, PROT_READ | PROT_WRITE, MAP_PRIVATE | MAP_ANONYMOUS, -1, 0);
-    if (all == MAP_FAILED || mprotect(all, page, PROT_NONE) != 0 ||
-        mprotect(all + page + MOST_RUN, page, PROT_NONE) != 0) {
+    size_t bytes = MOST_RUN + 3 * (size_t)FENCE;
+    uint8_t *all = mmap(NULL, bytes, PROT_READ | PROT_WRITE, MAP_PRIVATE | MAP_ANONYMOUS, -1, 0);
+    if (all == MAP_FAILED) {
         perror("compare: no memory to lend");
         exit(2);
     }
-    return all + page;
+    uint8_t *place = all + FENCE + (FENCE - (uintptr_t)all % FENCE) % FENCE;
+    if (mprotect(place - FENCE, FENCE, PROT_NONE) != 0 || mprotect(place + MOST_RUN, FENCE, PROT_NONE) != 0) {
+        perror("compare: no fence around what is lent");
+        exit(2);
+    }
+    return place;
 }
 
 void calling(struct face *face)
