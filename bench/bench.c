@@ -1,9 +1,9 @@
-/* bench STACK-FILE: times the library beside the C peer and prints a table. Ours and the peer's runs alternate; each
- * number is the median of many short runs. STACK-FILE has a line for each function: its name and its bytes of stack. */
+/* bench STACK-FILE LISTS: times the library beside the C peer and prints a table. Ours and the peer's runs alternate;
+ * each number is the median of many short runs. STACK-FILE has a line for each function: its name and its bytes of
+ * stack. LISTS is a folder with the lists that the second program writes from the papers. */
 #include "boost.h"
 #include "peer.h"
 
-#include "drafts.h"
 #include "mvb_ref.h"
 #include "seeded.h"
 
@@ -173,24 +173,29 @@ struct list {
 };
 static struct list smallest, typical, largest;
 
-static void make_list(struct list *list, const struct shape *shape)
+/* Smallest: no words. Typical: the periodic schedule of a conformance test network. Largest: 1,604 words for 1 ms. */
+static void read_list(struct list *list, const char *folder, const char *name)
 {
-    static struct draft draft;
-    draft_list(&draft, shape, &seed);
-    list->length = write_list(list->bytes, &draft);
+    char path[512];
+    snprintf(path, sizeof path, "%s/%s.list", folder, name);
+    FILE *file = fopen(path, "rb");
+    if (file != NULL) {
+        list->length = fread(list->bytes, 1, sizeof list->bytes, file);
+        fclose(file);
+    }
+    if (list->length == 0) {
+        fprintf(stderr, "bench: there is no list in %s\n", path);
+        exit(2);
+    }
 }
 
-static void make_lists(void)
+static void make_lists(const char *folder)
 {
-    struct shape none = {.ms = 1, .gap = 70, .reserve = 525, .f_code = -1};
-    struct shape some = {.ms = 1, .gap = 20, .reserve = 400, .f_code = -1, .want = {1, 2, 4, 6, 8, 8, 12, 12, 8, 4, 4}};
-    /* 20 telegrams of 70 bit times in each Basic Period: 1,604 words, the most of a good list for 1 ms. */
-    struct shape most = {.ms = 1, .gap = 4, .reserve = 71, .f_code = 0, .first_fit = 1, .want = {[4] = 68}};
-    for (unsigned n = 5; n < REF_CYCLES; n++)
-        most.want[n] = REF_CYCLE_WORDS;
-    make_list(&smallest, &none);
-    make_list(&typical, &some);
-    make_list(&largest, &most);
+    static const uint8_t none[] = {1, 1, 70, 0x8D, 4, 0, 0, 0, 0, 0, 0, 0, 0, 0, 0, 0};
+    smallest.length = sizeof none;
+    memcpy(smallest.bytes, none, sizeof none);
+    read_list(&typical, folder, "network");
+    read_list(&largest, folder, "largest-1ms");
 }
 
 /* A set of k devices, and what a truthful line answers in its round, step by step. */
@@ -223,14 +228,14 @@ static void make_event(struct event *event, unsigned k)
     }
 }
 
-static void make_inputs(void)
+static void make_inputs(const char *lists)
 {
     make_frames();
     make_bus(&bus_1, 1);
     make_bus(&bus_16, 16);
     make_bus(&bus_64, 64);
     make_bus(&bus_256, 256);
-    make_lists();
+    make_lists(lists);
     make_event(&event_0, 0);
     make_event(&event_2, 2);
     make_event(&event_64, 64);
@@ -622,11 +627,11 @@ static void print_eight_tables(void)
 
 int main(int argc, char **argv)
 {
-    if (argc != 2) {
-        fprintf(stderr, "usage: bench STACK-FILE\n");
+    if (argc != 3) {
+        fprintf(stderr, "usage: bench STACK-FILE LISTS\n");
         return 2;
     }
-    make_inputs();
+    make_inputs(argv[2]);
     printf("Lists: smallest %zu bytes, typical %zu, largest %zu.\n\n", smallest.length, typical.length, largest.length);
     print_table(argv[1]);
     print_eight_tables();
