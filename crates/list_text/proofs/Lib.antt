@@ -1,0 +1,4 @@
+pub mod WroteLaws
+pub mod LinesLaws
+pub mod CyclesLaws
+pub mod TextLaws

@@ -1,0 +1,254 @@
+-- The whole text: how long it can be, and the ways out of writing it.
+-- Assumes nothing.
+use Prim.Native.Nat.{ℕ, zero, suc, _+_, _-_, _*_, _^_, _/_, _%_, _≤_, _<_}
+use mathlib.Core.Path.{_≡_, refl, ap, sym, _∙_, subst}
+use mathlib.Core.List.{List, [], _∷_, _++_}
+use mathlib.Core.Bool.{Bool, true, false, cond}
+use native.Mathlib.Omega.{arith}
+use borrow.Author.Tests.{le-leb, lt-leb, leb-true}
+use lib.Dec.{ltb, leb}
+use lib.ListN.{length, take, drop, length-append, length-take, length-drop}
+use Rattle.refusals.specs.declared.Refusal.{Refusal}
+use Rattle.refusals.specs.Refusals.{numberOf}
+use Rattle.refusals.specs.Told.{Told, gives, refusing, refusal}
+use Rattle.numbers.specs.Written.{Bytes}
+use Rattle.lists.specs.declared.Header.{Header}
+use Rattle.lists.specs.declared.ListCheck.{ListCheck}
+use Rattle.lists.specs.declared.ListCheck.the-variants.{Accepted, Refused}
+use Rattle.lists.specs.Values.{Cycle, PeriodicList, cyclesOf, wordsOf}
+use Rattle.lists.specs.Reading.{Read, no, yes}
+use Rattle.lists.specs.Sends.{cutBy, subcycles}
+use Rattle.lists.specs.Accepts.{accepted}
+use Rattle.lists.specs.Answers.{toldCheck, toldRead}
+use Rattle.lists.specs.Written.{file, CyclesObey, Obeys}
+use Rattle.lists.proofs.ListLaws.{cycles-most}
+use Rattle.lists.proofs.Acceptance.{accepted-obeys, obeys-accepted, one-list}
+use Rattle.periods.specs.Inside.{IsList}
+use Rattle.list_text.specs.Text.{digit, two, decimal, space, newline, field, headerLine, wordLine, refusedLine, wordLines, subcycleLines, cycleLines, textOf, textBy}
+use Rattle.list_text.specs.Inside.{wroteIf, Wrote, RoomIf, Fits, CyclesHere, CyclesWrote, ListHere, TextFits, TextWrote}
+use Rattle.list_text.proofs.WroteLaws.{fits-part, and-then, as-bytes, two-small, decimal-small, decimal-large, two-few, decimal-few, field-length, header-length, line-length, refused-length}
+
+-- ---- how long the text can be
+line-few : (cycle sub w : ℕ) → length (wordLine cycle sub w) ≤ 15
+line-few cycle sub w = omega (arith, line-length cycle sub w, field-length cycle space, field-length sub newline, decimal-few cycle, decimal-few sub)
+
+lines-few : (cycle sub : ℕ) (ws : List ℕ) → length (wordLines cycle sub ws) ≤ 15 * length ws
+lines-few cycle sub [] = omega arith
+lines-few cycle sub (w ∷ ws) = omega (arith, length-append (wordLine cycle sub w) (wordLines cycle sub ws), line-few cycle sub w, lines-few cycle sub ws)
+
+cut-few : (cycle sub : ℕ) (ws zs : List ℕ) → length (subcycleLines cycle sub (cutBy ws zs)) ≤ 15 * length ws
+cut-few cycle sub ws [] = omega arith
+cut-few cycle sub ws (z ∷ zs) =
+    omega (arith, length-append (wordLines cycle sub (take z ws)) (subcycleLines cycle (suc sub) (cutBy (drop z ws) zs)), lines-few cycle sub (take z ws), cut-few cycle (suc sub) (drop z ws) zs, length-take z ws, length-drop z ws)
+
+cycle-few : (cycle : ℕ) (ws zs : List ℕ) → length (subcycleLines cycle 0 (subcycles ws zs)) ≤ 15 * length ws
+cycle-few cycle ws [] = omega (arith, length-append (wordLines cycle 0 ws) [], lines-few cycle 0 ws)
+cycle-few cycle ws (z ∷ zs) = cut-few cycle 0 ws (z ∷ zs)
+
+cycles-few : (n : ℕ) (cs : List Cycle) → length (cycleLines n cs) ≤ 15 * length (wordsOf cs)
+cycles-few n [] = omega arith
+cycles-few n (c ∷ cs) =
+    omega (arith, length-append (subcycleLines (2 ^ n) 0 (subcycles (c .words) (c .splits))) (cycleLines (suc n) cs), cycle-few (2 ^ n) (c .words) (c .splits), cycles-few (suc n) cs, length-append (c .words) (wordsOf cs))
+
+words-few : (n : ℕ) (cs : List Cycle) → CyclesObey n cs → length (wordsOf cs) ≤ 256 * length cs
+words-few n [] o = omega arith
+words-few n (c ∷ cs) o = omega (arith, length-append (c .words) (wordsOf cs), o .0 .count, words-few (suc n) cs (o .1))
+
+pub all-words-few : (l : PeriodicList) → Obeys l → length (wordsOf (l .cycles)) ≤ 2816
+all-words-few l o = omega (arith, words-few 0 (l .cycles) (o .cycles), o .many, cycles-most (l .head .ms))
+
+decimal-one : (n : ℕ) → n < 10 → length (decimal n) ≡ 1
+decimal-one n h = let a : n < 100 = omega arith in ap length (decimal-small n a ∙ two-small n h)
+
+decimal-three : (n : ℕ) → n < 1000 → length (decimal n) ≤ 3
+unfolding decimal
+decimal-three n h = go (ltb n 100)
+  where
+    top : length (two (n / 100)) ≡ 1
+    top = ap length (two-small (n / 100) (omega arith))
+
+    go : (t : Bool) → length (cond t (two n) ((two (n / 100) ++ digit (n / 10 % 10) ∷ []) ++ digit (n % 10) ∷ [])) ≤ 3
+    go true = omega (arith, two-few n)
+    go false = omega (arith, top, length-append (two (n / 100)) (digit (n / 10 % 10) ∷ []), length-append (two (n / 100) ++ digit (n / 10 % 10) ∷ []) (digit (n % 10) ∷ []))
+
+-- "a proved number of bytes that always suffices"
+pub text-few : (l : PeriodicList) → Obeys l → length (textOf (yes l [])) ≤ 42256
+text-few l o =
+    let h : Header = l .head in
+    let w : ℕ = length (wordsOf (l .cycles)) in
+    omega (
+      arith,
+      length-append (headerLine (h .ms) (h .gap) (h .reserve) w) (cycleLines 0 (l .cycles)),
+      cycles-few 0 (l .cycles),
+      all-words-few l o,
+      header-length (h .ms) (h .gap) (h .reserve) w,
+      field-length (h .ms) space,
+      field-length (h .gap) space,
+      field-length (h .reserve) space,
+      field-length w newline,
+      decimal-one (h .ms) (omega (arith, o .ms .1)),
+      decimal-three (h .gap) (omega (arith, o .gap .1)),
+      decimal-few (h .reserve),
+      decimal-few w,
+    )
+
+pub refused-few : (n : ℕ) → length (refusedLine n) ≤ 13
+refused-few n = omega (arith, refused-length n, field-length n newline, decimal-few n)
+
+-- ---- a list's text
+module _ (s : List ℕ) (h : Header) (words : ℕ) (k : ListHere s h words) (write : Bool) (out : List ℕ) (f : TextFits write s out) where
+  l : PeriodicList
+  l = k .known .l
+
+  same-header : headerLine (h .ms) (h .gap) (h .reserve) words ≡ headerLine (l .head .ms) (l .head .gap) (l .head .reserve) (length (wordsOf (l .cycles)))
+  unfolding l
+  same-header =
+      ap (λ (x : ℕ). headerLine x (h .gap) (h .reserve) words) (k .known .same) ∙ ap (λ (x : ℕ). headerLine (l .head .ms) x (h .reserve) words) (k .gap)
+      ∙ ap (λ (x : ℕ). headerLine (l .head .ms) (l .head .gap) x words) (k .reserve) ∙ ap (headerLine (l .head .ms) (l .head .gap) (l .head .reserve)) (k .count)
+
+  all-fits : Fits write 0 (length (textOf (yes l []))) out
+  unfolding l
+  all-fits = f (k .known .l) (k .known .obeys) (k .known .written-so)
+
+  text-length : length (textOf (yes l [])) ≡ length (headerLine (h .ms) (h .gap) (h .reserve) words) + length (cycleLines 0 (l .cycles))
+  unfolding l
+  text-length = length-append (headerLine (l .head .ms) (l .head .gap) (l .head .reserve) (length (wordsOf (l .cycles)))) (cycleLines 0 (l .cycles))
+      ∙ ap (λ (x : List ℕ). length x + length (cycleLines 0 (l .cycles))) (sym same-header)
+
+  pub words-small : words ≤ 2816
+  words-small = omega (arith, k .count, all-words-few (k .known .l) (k .known .obeys))
+
+  pub header-asked : (h .ms < 10000) × (h .gap < 10000) × (h .reserve < 10000) × (words < 10000) × Fits write 0 (length (headerLine (h .ms) (h .gap) (h .reserve) words)) out
+  unfolding l
+  header-asked =
+      let o = k .known .obeys in (
+        omega (arith, k .known .same, o .ms .1),
+        omega (arith, k .gap, o .gap .1),
+        omega (arith, k .reserve, o .reserve .1, o .ms .1),
+        omega (arith, words-small),
+        fits-part write 0 (length (textOf (yes l []))) out all-fits 0 0 (length (headerLine (h .ms) (h .gap) (h .reserve) words)) out (omega arith) (omega (arith, text-length)) refl,
+      )
+
+  module _ (out₁ : List ℕ) (a : ℕ) (w : Wrote write 0 (headerLine (h .ms) (h .gap) (h .reserve) words) out out₁ a) (e : length out₁ ≡ length out) where
+    pub cycles-asked : CyclesHere s (h .ms) write a out₁
+    unfolding l
+    cycles-asked =
+        record {
+          known = k .known;
+          fits = fits-part write 0 (length (textOf (yes l []))) out all-fits a (length (headerLine (h .ms) (h .gap) (h .reserve) words)) (length (cycleLines 0 (l .cycles))) out₁ (w .next) (omega (arith, text-length)) e;
+        }
+
+    pub text-done : (out₂ : List ℕ) (r : ℕ) → CyclesWrote write s a out₁ out₂ r → TextWrote write s out out₂ r
+    unfolding l
+    text-done out₂ r c m o q =
+        let x : l ≡ m = one-list l m (k .known .obeys) o (k .known .written-so ∙ sym q) in
+        let y : Wrote write 0 (headerLine (h .ms) (h .gap) (h .reserve) words ++ cycleLines 0 (l .cycles)) out out₂ r =
+        and-then write 0 (headerLine (h .ms) (h .gap) (h .reserve) words) (cycleLines 0 (l .cycles)) out out₁ out₂ a r (length (textOf (yes l []))) all-fits w (c l (k .known .obeys) (k .known .written-so)) in
+        subst (λ (z : PeriodicList). Wrote write 0 (textOf (yes z [])) out out₂ r) x
+        (as-bytes write 0 (headerLine (h .ms) (h .gap) (h .reserve) words ++ cycleLines 0 (l .cycles)) (textOf (yes l [])) out out₂ r (ap (λ (u : List ℕ). u ++ cycleLines 0 (l .cycles)) same-header) y)
+
+-- ---- asking for the text
+abbrev pub Answer : List ℕ → List ℕ → Told → List ℕ → Type 0
+Answer s out told out' =
+    (told ≡ textBy s (length out) refusal (λ t. gives (length t ∷ []))) × (out' ≡ textBy s (length out) (λ m. out) (λ t. t ++ drop (length t) out))
+
+module _ (s out : List ℕ) (r : Read PeriodicList) (e : accepted s ≡ r) (k : ℕ) (n : k ≡ length (textOf r)) where
+  short : length out < k → Answer s out (refusal 4) out
+  unfolding textBy
+  short h =
+      let b : leb (length (textOf r)) (length out) ≡ false = lt-leb (length (textOf r)) (length out) (omega arith) in
+      (rw (e, b), rw (e, b))
+
+  enough : k ≤ length out → (m : ℕ) (out' : List ℕ) → Wrote true 0 (textOf r) out out' m → Answer s out (gives (m ∷ [])) out'
+  unfolding textBy
+  enough h m out' w =
+      let b : leb (length (textOf r)) (length out) ≡ true = le-leb (length (textOf r)) (length out) (omega arith) in
+      let j : m ≡ length (textOf r) = omega (arith, w .next) in
+      let z : 0 + length (textOf r) ≡ length (textOf r) = omega arith in
+      (rw (e, b) (ap (λ (x : ℕ). gives (x ∷ [])) j), rw (e, b) (w .out-is ∙ ap (λ (x : ℕ). textOf r ++ drop x out) z))
+
+-- after the text was counted
+module _ (s out : List ℕ) (r : Read PeriodicList) (e : accepted s ≡ r) (k : ℕ) (out₁ : List ℕ) (c : Wrote false 0 (textOf r) out out₁ k) where
+  pub too-short : length out₁ < k → Answer s out (refusal 4) out₁
+  too-short h =
+      let q : out₁ ≡ out = c .out-is in
+      subst (λ (x : List ℕ). Answer s out (refusal 4) x) (sym q) (short s out r e k (omega (arith, c .next)) (omega (arith, ap length q)))
+
+  pub all-written : k ≤ length out₁ → (m : ℕ) (out' : List ℕ) → Wrote true 0 (textOf r) out₁ out' m → Answer s out (gives (m ∷ [])) out'
+  all-written h m out' w =
+      let q : out₁ ≡ out = c .out-is in
+      enough s out r e k (omega (arith, c .next)) (omega (arith, ap length q)) m out' (subst (λ (x : List ℕ). Wrote true 0 (textOf r) x out' m) q w)
+
+counts : (n : ℕ) (out : List ℕ) → n ≤ 100000 → Fits false 0 n out
+counts n out h = record { room = tt; small = omega arith }
+
+writes : (n : ℕ) (out : List ℕ) → n ≤ 100000 → n ≤ length out → Fits true 0 n out
+writes n out h l = record { room = omega arith; small = omega arith }
+
+pub refused-counts : (n : ℕ) (out : List ℕ) → Fits false 0 (length (refusedLine n)) out
+refused-counts n out = counts (length (refusedLine n)) out (omega (arith, refused-few n))
+
+pub refused-writes : (n : ℕ) (out out' : List ℕ) (k : ℕ) → Wrote false 0 (refusedLine n) out out' k → k ≤ length out' → Fits true 0 (length (refusedLine n)) out'
+refused-writes n out out' k w h = writes (length (refusedLine n)) out' (omega (arith, refused-few n)) (omega (arith, w .next))
+
+pub list-counts : (s out : List ℕ) → TextFits false s out
+list-counts s out l o q = counts (length (textOf (yes l []))) out (omega (arith, text-few l o))
+
+module _ (s : List ℕ) (h : Header) (words : ℕ) (k : ListHere s h words) (out out₁ : List ℕ) (m : ℕ) (w : TextWrote false s out out₁ m) where
+  pub the-count : m ≡ length (textOf (yes (k .known .l) []))
+  the-count = omega (arith, w (k .known .l) (k .known .obeys) (k .known .written-so) .next)
+
+  pub list-writes : m ≤ length out₁ → TextFits true s out₁
+  list-writes l p o q =
+      let x : k .known .l ≡ p = one-list (k .known .l) p (k .known .obeys) o (k .known .written-so ∙ sym q) in
+      writes (length (textOf (yes p []))) out₁ (omega (arith, text-few p o)) (omega (arith, the-count, ap (λ (z : PeriodicList). length (textOf (yes z []))) x))
+
+pub is-accepted : (s : List ℕ) (h : Header) (words : ℕ) (k : ListHere s h words) → accepted s ≡ yes (k .known .l) []
+is-accepted s h words k = subst (λ (x : List ℕ). accepted x ≡ yes (k .known .l) []) (k .known .written-so) (obeys-accepted (k .known .l) (k .known .obeys))
+
+-- ---- what the check of the list tells
+told-no : (r : Read PeriodicList) (m : Refusal) → refusing m ≡ toldRead r → r ≡ no (numberOf m)
+told-no (no n) m e = ap no (cc)
+told-no (yes l rest) m e = let z : _≡_ {A = ℕ} 0 1 = cc in absurd (omega arith)
+
+record Same (r : Read PeriodicList) (h : Header) (n : ℕ) : Type 0 where
+  pub l : PeriodicList
+  pub rest : List ℕ
+  pub is : r ≡ yes l rest
+  pub ms : h .ms ≡ l .head .ms
+  pub gap : h .gap ≡ l .head .gap
+  pub reserve : h .reserve ≡ l .head .reserve
+  pub count : n ≡ length (wordsOf (l .cycles))
+
+told-yes : (r : Read PeriodicList) (h : Header) (n : ℕ) → toldCheck (Accepted h n) ≡ toldRead r → Same r h n
+told-yes (no m) h n e = let z : _≡_ {A = ℕ} 0 1 = cc in absurd (omega arith)
+told-yes (yes l rest) h n e = record { l = l; rest = rest; is = refl; ms = cc; gap = cc; reserve = cc; count = cc }
+
+module _ (s : List ℕ) (a : ListCheck) (t : toldCheck a ≡ toldRead (accepted s)) where
+  pub not-accepted : (m : Refusal) → a ≡ Refused m → accepted s ≡ no (numberOf m)
+  not-accepted m e = told-no (accepted s) m (sym (ap toldCheck e) ∙ t)
+
+  pub list-here : Bytes s → (h : Header) (n : ℕ) → a ≡ Accepted h n → ListHere s h n
+  list-here k h n e =
+      let u = told-yes (accepted s) h n (sym (ap toldCheck e) ∙ t) in
+      let o = accepted-obeys s (u .l) (u .rest) k (u .is) in
+      record { known = record { l = u .l; obeys = o .0; written-so = o .1; same = u .ms }; gap = u .gap; reserve = u .reserve; count = u .count }
+
+-- ---- what a caller may conclude
+-- the bytes written have room
+pub bytes-fit : (s : List ℕ) (room k : ℕ) → gives (k ∷ []) ≡ textBy s room refusal (λ t. gives (length t ∷ [])) → k ≤ room
+unfolding textBy
+bytes-fit s room k e = go (leb (length (textOf (accepted s))) room) refl e
+  where
+    go : (b : Bool) → leb (length (textOf (accepted s))) room ≡ b → gives (k ∷ []) ≡ cond b (gives (length (textOf (accepted s)) ∷ [])) (refusal 4) → k ≤ room
+    go true q e = let i : k ≡ length (textOf (accepted s)) = cc in omega (arith, leb-true (length (textOf (accepted s))) room q)
+    go false q e = let z : _≡_ {A = ℕ} 0 1 = cc in absurd (omega arith)
+
+-- 42,256 bytes always suffice
+pub always-enough : (s : List ℕ) (room : ℕ) → Bytes s → 42256 ≤ room → textBy s room refusal (λ t. gives (length t ∷ [])) ≡ gives (length (textOf (accepted s)) ∷ [])
+unfolding textBy
+always-enough s room k h = rw (le-leb (length (textOf (accepted s))) room (omega (arith, few (accepted s) refl)))
+  where
+    few : (r : Read PeriodicList) → accepted s ≡ r → length (textOf (accepted s)) ≤ 42256
+    few (no n) e = omega (arith, ap (λ (x : Read PeriodicList). length (textOf x)) e, refused-few n)
+    few (yes l rest) e = omega (arith, ap (λ (x : Read PeriodicList). length (textOf x)) e, text-few l (accepted-obeys s l rest k e .0))

@@ -1,0 +1,16 @@
+pub mod HeadLaws
+pub mod SeenLaws
+pub mod WordLaws
+pub mod SplitLaws
+pub mod TelegramLaws
+pub mod LoadLaws
+pub mod CycleLaws
+pub mod WidenLaws
+pub mod SentLaws
+pub mod CyclesLaws
+pub mod ListLaws
+pub mod ThenLaws
+pub mod WasLaws
+pub mod ClashLaws
+pub mod Acceptance
+pub mod PlainLaws

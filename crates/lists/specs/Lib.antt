@@ -1,0 +1,9 @@
+pub mod Values
+pub mod Rules
+pub mod Reading
+pub mod Sends
+pub mod Accepts
+pub mod Answers
+pub mod Inside
+pub mod Written
+pub mod Plain

@@ -1,0 +1,4 @@
+pub mod NumberLaws
+pub mod Answers
+pub mod RunLaws
+pub mod WrittenLaws

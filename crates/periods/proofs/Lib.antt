@@ -1,0 +1,4 @@
+pub mod CopyLaws
+pub mod SubcycleLaws
+pub mod PeriodLaws
+pub mod OnceLaws

@@ -1,0 +1,3 @@
+pub mod Period
+pub mod Inside
+pub mod Once
