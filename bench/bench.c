@@ -1,6 +1,7 @@
 /* bench STACK-FILE LISTS: times the library beside the C peer and prints a table. Ours and the peer's runs alternate;
- * each number is the median of many short runs. STACK-FILE has a line for each function: its name and its bytes of
- * stack. LISTS is a folder with the lists that the second program writes from the papers. */
+ * each time is the median of many short runs, each ratio the median over pairs of runs that stand beside each other.
+ * STACK-FILE has a line for each function: its name and its bytes of stack. LISTS is a folder with the lists that the
+ * second program writes from the papers. */
 #include "boost.h"
 #include "peer.h"
 
@@ -534,31 +535,55 @@ static int by_size(const void *a, const void *b)
     return (x > y) - (x < y);
 }
 
-/* The median of the runs of one side, and how far apart the quarters lie. */
+/* The median of many numbers, and how far apart its quarters lie. */
 struct measured {
     double median, spread;
 };
 
-static struct measured of_runs(double runs[RUNS])
+static struct measured middle(double numbers[RUNS])
 {
-    qsort(runs, RUNS, sizeof runs[0], by_size);
-    double median = runs[RUNS / 2];
-    return (struct measured){median, (runs[RUNS * 3 / 4] - runs[RUNS / 4]) / median};
+    qsort(numbers, RUNS, sizeof numbers[0], by_size);
+    double median = numbers[RUNS / 2];
+    return (struct measured){median, (numbers[RUNS * 3 / 4] - numbers[RUNS / 4]) / median};
 }
 
-static void measure(const struct row *row, const struct calls *const sides[SIDES], struct measured result[SIDES])
+/* What a row shows of each side: its time, and for all but ours the ratio of ours to it, run by run. */
+struct shown {
+    struct measured time, ratio;
+};
+
+/* How many calls make a run long enough, by the quickest of some runs: others share the machine. */
+static unsigned calls_in_a_run(const struct row *row, const struct calls *calls)
 {
-    static double runs[SIDES][RUNS];
     unsigned times = 1;
-    while (times < 1u << 20 && one_run(row, sides[0], times) * times < RUN_NANOSECONDS)
-        times *= 2;
+    for (; times < 1u << 20; times *= 2) {
+        double quickest = one_run(row, calls, times);
+        for (unsigned tried = 0; tried < 8; tried++) {
+            double again = one_run(row, calls, times);
+            quickest = again < quickest ? again : quickest;
+        }
+        if (quickest * times >= RUN_NANOSECONDS)
+            break;
+    }
+    return times;
+}
+
+static void measure(const struct row *row, const struct calls *const sides[SIDES], struct shown result[SIDES])
+{
+    static double runs[SIDES][RUNS], ratios[RUNS];
+    unsigned times = calls_in_a_run(row, sides[0]);
     for (unsigned run = 0; run < RUNS; run++)
         for (unsigned side = 0; side < SIDES; side++)
             if (sides[side] != NULL)
                 runs[side][run] = one_run(row, sides[side], times);
-    for (unsigned side = 0; side < SIDES; side++)
-        if (sides[side] != NULL)
-            result[side] = of_runs(runs[side]);
+    for (unsigned side = SIDES; side-- > 0;) {
+        if (sides[side] == NULL)
+            continue;
+        for (unsigned run = 0; run < RUNS; run++)
+            ratios[run] = runs[0][run] / runs[side][run];
+        result[side].ratio = middle(ratios);
+        result[side].time = middle(runs[side]);
+    }
 }
 
 static void must_agree(const struct row *row, const struct calls *a, const struct calls *b)
@@ -586,38 +611,37 @@ static unsigned stack_of(const char *file, const char *side, const char *functio
     return found;
 }
 
-static void print_row(const struct row *row, const struct measured m[SIDES], double first, const char *stacks,
+static void print_row(const struct row *row, const struct shown s[SIDES], double first, const char *stacks,
                       int has_boost)
 {
     char beside[48] = "";
-    double spread = m[0].spread > m[1].spread ? m[0].spread : m[1].spread;
     if (has_boost)
-        snprintf(beside, sizeof beside, "%.1f (%.2f)", m[2].median, m[0].median / m[2].median);
-    printf("| %-19s | %-11s | %10.1f | %10.1f | %5.2f | %-13s | %6.1f | %3.0f %% | %6u | %6u |\n", row->what, row->size,
-           m[0].median, m[1].median, m[0].median / m[1].median, beside, m[0].median / first, 100 * spread,
-           stack_of(stacks, "mvb", row->function), stack_of(stacks, "peer", row->function));
+        snprintf(beside, sizeof beside, "%.1f (%.2f)", s[2].time.median, s[2].ratio.median);
+    printf("| %-19s | %-11s | %10.1f | %10.1f | %5.2f | %4.0f %% | %-13s | %7.1f | %5u | %6u |\n", row->what, row->size,
+           s[0].time.median, s[1].time.median, s[1].ratio.median, 100 * s[1].ratio.spread, beside,
+           s[0].time.median / first, stack_of(stacks, "mvb", row->function), stack_of(stacks, "peer", row->function));
 }
 
 static void print_table(const char *stacks)
 {
     double first = 1;
     unsigned behind = 0, measured = 0;
-    printf("| call                | input       |    ours ns |    peer ns | ratio | Boost (ratio) |  grows | noise | stack  | peer's |\n");
-    printf("|---|---|---|---|---|---|---|---|---|---|\n");
+    printf("| call                | input       |    ours ns |    peer ns | ratio |  noise | Boost (ratio) |   grows |"
+           " stack | peer's |\n|---|---|---|---|---|---|---|---|---|---|\n");
     for (const struct row *row = rows; row < rows + ROWS; row++) {
         if (!row->is_there)
             continue;
         int has_boost = row->run == run_check;
         const struct calls *sides[SIDES] = {&ours, &peer, has_boost ? &boost : NULL};
-        struct measured m[SIDES];
+        struct shown shown[SIDES];
         must_agree(row, &ours, &peer);
         if (has_boost)
             must_agree(row, &ours, &boost);
-        measure(row, sides, m);
+        measure(row, sides, shown);
         if (row == rows || strcmp(row[-1].what, row->what) != 0)
-            first = m[0].median;
-        print_row(row, m, first, stacks, has_boost);
-        behind += m[0].median > m[1].median;
+            first = shown[0].time.median;
+        print_row(row, shown, first, stacks, has_boost);
+        behind += shown[1].ratio.median > 1;
         measured++;
         fflush(stdout);
     }
@@ -629,13 +653,13 @@ static void print_eight_tables(void)
 {
     const struct row *row = &rows[1];
     const struct calls *sides[SIDES] = {&ours, &eight_tables, NULL};
-    struct measured m[SIDES];
+    struct shown shown[SIDES];
     if (!row->is_there)
         return;
     must_agree(row, &ours, &eight_tables);
-    measure(row, sides, m);
-    printf("Check sequence of 8 bytes by eight tables of 256 bytes: %.1f ns; ours %.1f ns, ratio %.2f.\n", m[1].median,
-           m[0].median, m[0].median / m[1].median);
+    measure(row, sides, shown);
+    printf("Check sequence of 8 bytes by eight tables of 256 bytes: %.1f ns; ours %.1f ns, ratio %.2f.\n",
+           shown[1].time.median, shown[0].time.median, shown[1].ratio.median);
 }
 
 int main(int argc, char **argv)

@@ -1,6 +1,6 @@
-/* A bus administrator in a small control unit: it loads a list, runs the Basic Periods of a Macro_Cycle, keeps ports and
- * ages, and runs an event round in what each Basic Period leaves. Start from here; line.c is to be replaced by your line
- * chip, and main by your millisecond's interrupt.
+/* A bus administrator in a small control unit: it loads a list, runs the Basic Periods of a Macro_Cycle, keeps ports
+ * and ages, and runs an event round in what each Basic Period leaves. Start from here; line.c is to be replaced by your
+ * line chip, and main by your millisecond's interrupt.
  *
  * All memory is the program's own and is lent call by call. */
 #include "line.h"

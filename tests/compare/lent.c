@@ -210,7 +210,8 @@ void holds(int right, const char *what)
 /* A fault of memory, or no end: inside a call. */
 static void stopped(int signal_number)
 {
-    printf("differs: %s\n", signal_number == SIGALRM ? "the call has not ended" : "memory that was not lent is touched");
+    int late = signal_number == SIGALRM;
+    printf("differs: %s\n", late ? "the call has not ended" : "memory that was not lent is touched");
     print_call();
     print_origin();
     fflush(stdout);

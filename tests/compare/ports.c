@@ -10,7 +10,8 @@ enum { MOST_RECORDS = 300, MOST_STORE = 32 * 256 + 16, CALLS = 25 };
 
 static struct face faces[FACES] = {
     [ARRIVE] = {.name = "mvb_arrive",
-                .answers = 1u << 0 | 1u << 1 | 1u << 2 | 1u << 4 | 1u << 13 | 1u << 14 | 1u << 15 | 1u << 16 | 1u << 17},
+                .answers = 1u << 0 | 1u << 1 | 1u << 2 | 1u << 4 | 1u << 13 | 1u << 14 | 1u << 15 | 1u << 16 |
+                           1u << 17},
     [ANSWER] = {.name = "mvb_answer",
                 .answers = 1u << 0 | 1u << 4 | 1u << 13 | 1u << 14 | 1u << 15 | 1u << 16 | 1u << 17},
     [READ] = {.name = "mvb_read", .answers = 1u << 0 | 1u << 4 | 1u << 13 | 1u << 15 | 1u << 17},
