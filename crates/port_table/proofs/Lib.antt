@@ -1,0 +1,3 @@
+pub mod OneMore
+pub mod Steps
+pub mod Places

@@ -1,0 +1,81 @@
+-- What a walk of the table shows, for the address it looks for.
+-- Assumes nothing.
+use mathlib.Core.Path.{_≡_}
+use mathlib.Core.Bool.{Bool, true, false, cond, _&&_}
+use mathlib.Core.List.{List, [], _∷_, _++_}
+use Prim.Native.Nat.{ℕ, _+_, _*_, _/_, _%_, _^_}
+use lib.Dec.{eqb, ltb, leb}
+use lib.ListN.{length, getD}
+use Rattle.port_table.specs.declared.Port.{Port}
+use Rattle.port_table.specs.declared.Place.{Place}
+use Rattle.port_table.specs.declared.Seen.{Seen}
+use Rattle.port_table.specs.Table.{good, tableBytes, placeOf, offsetOf, portOf, isSink}
+
+-- one more than the last address
+unfoldable pub nextFrom : ℕ → List Port → ℕ
+nextFrom low [] = low
+nextFrom low (p ∷ ps) = nextFrom (p .address + 1) ps
+
+-- 1 for a sink
+abbrev pub markOf : ℕ → ℕ
+markOf sink = cond (eqb sink 0) 0 1
+
+-- the marks of sinks are one number of 256 bits, 64 to a part, the newest record in its lowest bit: one record more
+abbrev pub mark : List ℕ → ℕ → List ℕ
+mark m sink =
+    (getD m 0 0 % 2 ^ 63 * 2 + markOf sink)
+    ∷ (getD m 1 0 % 2 ^ 63 * 2 + getD m 0 0 / 2 ^ 63)
+    ∷ (getD m 2 0 % 2 ^ 63 * 2 + getD m 1 0 / 2 ^ 63)
+    ∷ (getD m 3 0 % 2 ^ 63 * 2 + getD m 2 0 / 2 ^ 63)
+    ∷ []
+
+-- all records more
+unfoldable pub marksFrom : List ℕ → List Port → List ℕ
+marksFrom m [] = m
+marksFrom m (p ∷ ps) = marksFrom (mark m (p .sink)) ps
+
+-- no mark at all
+abbrev pub noMarks : List ℕ
+noMarks = 0 ∷ 0 ∷ 0 ∷ 0 ∷ []
+
+-- the place of no port at all
+abbrev pub noPlace : Place
+noPlace = record { at = 0; offset = 0; «f_code» = 0; sink = 0 }
+
+-- what no record shows, or a table that is not good
+abbrev pub emptySeen : Bool → Seen
+emptySeen ok = record { good = ok; next = 0; count = 0; bytes = 0; place = noPlace; marks = noMarks }
+
+-- of a good table: records, bytes, the place of the port with the address, and which records are sinks
+abbrev pub goodSeen : ℕ → List Port → Seen
+goodSeen a ps = record {
+  good = true;
+  next = nextFrom 0 ps;
+  count = length ps;
+  bytes = tableBytes ps;
+  place = record { at = placeOf a ps; offset = offsetOf a ps; «f_code» = portOf a ps .«f_code»; sink = portOf a ps .sink };
+  marks = marksFrom noMarks ps;
+}
+
+-- what a walk shows
+unfoldable pub seenOf : ℕ → List Port → Seen
+seenOf a ps = cond (good ps) (goodSeen a ps) (emptySeen false)
+
+-- a walk of some table showed this
+abbrev pub Walked : Seen → ℕ → Type 0
+Walked s a = (ps : List Port) × (s ≡ seenOf a ps)
+
+-- whatever table showed the first, with one record more it shows the second
+abbrev pub WalkedOn : Seen → Port → ℕ → Seen → Type 0
+WalkedOn s p a t = (ps : List Port) → s ≡ seenOf a ps → t ≡ seenOf a (ps ++ p ∷ [])
+
+-- a record keeps the table good
+abbrev pub fits : Seen → Port → Bool
+fits s p = ltb (s .count) 256 && (leb (s .next) (p .address) && (ltb (p .address) 4096 && ltb (p .«f_code») 5))
+
+-- the place after one record more, of so many bytes
+abbrev pub placeAfter : Seen → Port → ℕ → ℕ → Place
+placeAfter s p size a =
+    cond (ltb (s .place .at) (s .count)) (s .place)
+    (cond (eqb (p .address) a) (record { at = s .count; offset = s .bytes; «f_code» = p .«f_code»; sink = p .sink })
+    (record { at = s .count + 1; offset = s .bytes + size; «f_code» = 0; sink = 0 }))

@@ -1,0 +1,44 @@
+// The port table, lent as a run of records, and the one walk over it (document 01, "Ports and ages").
+mod records;
+
+ghost use mathlib.Core.Path.{_≡_};
+ghost use Rattle.port_table.specs.Seen.{seenOf};
+
+// A record of the port table. Sink 0 is a source, anything else a sink.
+#[repr(C)]
+pub struct Port {
+    pub address: u16,
+    pub f_code: u8,
+    pub sink: u8,
+}
+
+// Where the port of an address lies: so many records and so many bytes behind the first.
+pub struct Place {
+    pub at: usize,
+    pub offset: usize,
+    pub f_code: u8,
+    pub sink: u8,
+}
+
+// What a walk of the table shows. `place.at` is `count` where no record has the address.
+pub struct Seen {
+    pub good: bool,
+    pub next: u16,
+    pub count: usize,
+    pub bytes: usize,
+    pub place: Place,
+    pub marks: [u64; 4],
+}
+
+// Goodness test and lookup in one walk.
+pub fn look(table: &[Port], address: u16) -> Seen
+    ensures { λ r. ⌜ r ≡ seenOf address (now (table .entry)) ⌝ }
+{
+    let mut seen = records::none();
+    let mut i: usize = 0;
+    while i < table.len() {
+        seen = records::step(seen, table[i], address);
+        i += 1;
+    }
+    seen
+}

@@ -1,0 +1,123 @@
+-- What the frames' reader and writer say of a Process Data port's frame: only 1, 2 and, for the output, 4 are left.
+-- Assumes nothing.
+use mathlib.Core.Path.{_≡_, refl, sym, ap, ap₂, _∙_, subst}
+use mathlib.Core.Bool.{Bool, true, false, not, cond}
+use mathlib.Core.List.{List, [], _∷_, _++_}
+use Prim.Native.Nat.{ℕ, zero, suc, _+_, _-_, _*_, _≤_, _<_}
+use native.Mathlib.Nat.{suc-mul}
+use native.Mathlib.Omega.{arith}
+use borrow.Author.Tests.{eq-eqb, ne-eqb, lt-ltb, le-ltb}
+use lib.Dec.{eqb, ltb}
+use lib.ListN.{length, take, drop, length-append, length-drop}
+use lib.Seq.{take-at, length-take-le}
+use Rattle.refusals.specs.Told.{Told, gives, refused, refusal, refusing}
+use Rattle.refusals.specs.declared.Refusal.{Refusal}
+use Rattle.refusals.specs.Refusals.{numberOf}
+use Rattle.refusals.proofs.Apart.{never-both}
+use Rattle.frames.specs.declared.Wrote.{Wrote}
+use Rattle.frames.specs.declared.Wrote.the-variants as Wrote'
+use Rattle.frames.specs.Answers.{toldWrote}
+use Rattle.frames.specs.Rows.{dataBits, reserved, dataBytes, blocks, blockBytes, frameBytes}
+use Rattle.frames.specs.Blocks.{dataIn, allRight, rightBlocks}
+use Rattle.frames.specs.Slave.{slaveData, slaveFrame, slaveReadBy, slaveRead, slaveReadOut, slaveWriteBy, slaveWrite, slaveWriteOut}
+use Rattle.frames.proofs.Order.{read-done, write-done}
+use Rattle.frames.proofs.Rows.{full, whole, whole-most}
+use Rattle.frames.proofs.RoundTrip.{slave-accepted, slave-frame-length}
+use Rattle.port_table.proofs.OneMore.{by-cases, size-most}
+
+-- "1; 2" of a frame
+abbrev pub frameCheck : ℕ → List ℕ → ℕ
+frameCheck f frame = cond (not (eqb (length frame) (frameBytes f))) 1 (cond (not (allRight (blocks f) (blockBytes f) frame)) 2 0)
+
+-- "4 for the output" of a frame
+abbrev pub outCheck : ℕ → List ℕ → ℕ
+outCheck f out = cond (ltb (length out) (frameBytes f)) 4 0
+
+-- no F_code of Process Data is reserved
+pub process-data : (f : ℕ) → f ≤ 4 → reserved f ≡ false
+unfolding reserved dataBits
+process-data zero h = refl
+process-data (suc zero) h = refl
+process-data (suc (suc zero)) h = refl
+process-data (suc (suc (suc zero))) h = refl
+process-data (suc (suc (suc (suc zero)))) h = refl
+process-data (suc (suc (suc (suc (suc f))))) h = absurd (omega arith)
+
+data-length : (k n : ℕ) (w : List ℕ) → length w ≡ k * (n + 1) → length (dataIn k n w) ≡ k * n
+data-length zero n w e = omega arith
+data-length (suc k) n w e =
+    let m : suc k * (n + 1) ≡ k * (n + 1) + (n + 1) = suc-mul k (n + 1) in
+    let ld : length (drop (n + 1) w) ≡ length w - (n + 1) = length-drop (n + 1) w in
+    let ih : length (dataIn k n (drop (n + 1) w)) ≡ k * n = data-length k n (drop (n + 1) w) (omega arith) in
+    omega (arith, suc-mul k n, length-take-le n w (omega arith), length-append (take n w) (dataIn k n (drop (n + 1) w)))
+
+pub slave-data-length : (f : ℕ) (w : List ℕ) → length w ≡ frameBytes f → length (slaveData f w) ≡ dataBytes f
+unfolding slaveData
+slave-data-length f w e = data-length (blocks f) (blockBytes f) w (e ∙ sym (whole f)) ∙ full f
+
+-- the number of a refusal that was told
+same-number : (n : ℕ) (R : Refusal) → refusal n ≡ refusing R → n ≡ numberOf R
+same-number n R e = cc
+
+-- what an answer tells, by its case
+pub told-bytes : {w : Wrote} {n : ℕ} {x : Told} → w ≡ Wrote'.Bytes n → toldWrote w ≡ x → gives (n ∷ []) ≡ x
+told-bytes e t = sym (ap toldWrote e) ∙ t
+
+pub told-refused : {w : Wrote} {R : Refusal} {x : Told} → w ≡ Wrote'.Refused R → toldWrote w ≡ x → refusing R ≡ x
+told-refused e t = sym (ap toldWrote e) ∙ t
+
+module _ (f : ℕ) (frame : List ℕ) where
+  -- an accepted frame, and its data in what the reader wrote
+  pub read-gives : (n : ℕ) (out : List ℕ) → gives (n ∷ []) ≡ slaveRead f frame (length out) → (frameCheck f frame ≡ 0) × (take n (slaveReadOut f frame out) ≡ slaveData f frame)
+  unfolding slaveReadOut
+  read-gives n out t =
+      let p = slave-accepted f frame (length out) n (sym t) in
+      let l = slave-data-length f frame (p .1) in (
+        simp (eq-eqb (length frame) (frameBytes f) (p .1), eq-eqb (rightBlocks (blocks f) (blockBytes f) frame) (blocks f) (p .2)),
+        ap (take n) (sym (read-done f frame (length out) (λ k. out) (slaveData f frame ++ drop (dataBytes f) out) (p .0) (p .1) (p .2) (p .3)))
+            ∙ take-at (slaveData f frame) (drop (dataBytes f) out) n (l ∙ p .4),
+      )
+
+  -- it has so many bytes
+  pub read-bytes : (n room : ℕ) → gives (n ∷ []) ≡ slaveRead f frame room → (n ≡ dataBytes f) × (n ≤ 32)
+  read-bytes n room t = let e : n ≡ dataBytes f = sym (slave-accepted f frame room n (sym t) .4) in (e, omega (arith, size-most f))
+
+  pub read-refuses : (room : ℕ) (R : Refusal) → f ≤ 4 → 32 ≤ room → refusing R ≡ slaveRead f frame room → (frameCheck f frame ≡ numberOf R) × (eqb (numberOf R) 0 ≡ false)
+  unfolding slaveRead
+  read-refuses room R h k t = go (eqb (length frame) (frameBytes f)) (allRight (blocks f) (blockBytes f) frame) (t ∙ simp (process-data f h, le-ltb room (dataBytes f) (omega (arith, size-most f))))
+    where
+      go : (a b : Bool) → refusing R ≡ cond (not a) (refusal 1) (cond (not b) (refusal 2) (gives (dataBytes f ∷ []))) → (cond (not a) 1 (cond (not b) 2 0) ≡ numberOf R) × (eqb (numberOf R) 0 ≡ false)
+      go true true t = absurd (never-both (dataBytes f ∷ []) R (sym t))
+      go true false t = let e = same-number 2 R (sym t) in (e, ap (λ (n : ℕ). eqb n 0) (sym e))
+      go false b t = let e = same-number 1 R (sym t) in (e, ap (λ (n : ℕ). eqb n 0) (sym e))
+
+module _ (f : ℕ) (d : List ℕ) (h : f ≤ 4) (l : length d ≡ dataBytes f) where
+  pub write-gives : (n : ℕ) (out : List ℕ) → gives (n ∷ []) ≡ slaveWrite f d (length out) → (outCheck f out ≡ 0) × (n ≡ frameBytes f) × (slaveWriteOut f d out ≡ slaveFrame f d ++ drop (frameBytes f) out)
+  unfolding slaveWrite slaveWriteOut
+  write-gives n out t = go (ltb (length out) (frameBytes f)) (t ∙ simp (process-data f h, eq-eqb (length d) (dataBytes f) l)) (simp (process-data f h, eq-eqb (length d) (dataBytes f) l))
+    where
+      go : (b : Bool) → gives (n ∷ []) ≡ cond b (refusal 4) (gives (frameBytes f ∷ [])) → {x : List ℕ} → x ≡ cond b out (slaveFrame f d ++ drop (frameBytes f) out) → _≡_ {A = ℕ} (cond b 4 0) 0 × (n ≡ frameBytes f) × (x ≡ slaveFrame f d ++ drop (frameBytes f) out)
+      go true t x = let z : _≡_ {A = ℕ} 0 1 = cc in absurd (omega arith)
+      go false t x = (refl, (let e : n ≡ frameBytes f = cc in e), x)
+
+  pub write-refuses : (out : List ℕ) (R : Refusal) → refusing R ≡ slaveWrite f d (length out) → (outCheck f out ≡ numberOf R) × (eqb (numberOf R) 0 ≡ false) × (slaveWriteOut f d out ≡ out)
+  unfolding slaveWrite slaveWriteOut
+  write-refuses out R t = go (ltb (length out) (frameBytes f)) (t ∙ simp (process-data f h, eq-eqb (length d) (dataBytes f) l)) (simp (process-data f h, eq-eqb (length d) (dataBytes f) l))
+    where
+      go : (b : Bool) → refusing R ≡ cond b (refusal 4) (gives (frameBytes f ∷ [])) → {x : List ℕ} → x ≡ cond b out (slaveFrame f d ++ drop (frameBytes f) out) → (cond b 4 0 ≡ numberOf R) × (eqb (numberOf R) 0 ≡ false) × (x ≡ out)
+      go true t x = let e = same-number 4 R (sym t) in (e, ap (λ (n : ℕ). eqb n 0) (sym e), x)
+      go false t x = absurd (never-both (frameBytes f ∷ []) R (sym t))
+
+-- a frame that was written has at most 36 bytes
+pub written-small : (f : ℕ) (d : List ℕ) (n room : ℕ) → gives (n ∷ []) ≡ slaveWrite f d room → n ≤ 36
+unfolding slaveWrite
+written-small f d n room t = go (reserved f) (eqb (length d) (dataBytes f)) (ltb room (frameBytes f)) t
+  where
+    no : (k : ℕ) → gives (n ∷ []) ≡ refusal k → n ≤ 36
+    no k t = let z : _≡_ {A = ℕ} 0 1 = cc in absurd (omega arith)
+
+    go : (a b c : Bool) → gives (n ∷ []) ≡ cond a (refusal 3) (cond (not b) (refusal 1) (cond c (refusal 4) (gives (frameBytes f ∷ [])))) → n ≤ 36
+    go true b c t = no 3 t
+    go false false c t = no 1 t
+    go false true true t = no 4 t
+    go false true false t = let e : n ≡ frameBytes f = cc in omega (arith, whole-most f)

@@ -1,0 +1,9 @@
+pub mod Frames
+pub mod Bytes
+pub mod Marks
+pub mod Order
+pub mod Outcomes
+pub mod OwnPortOnly
+pub mod Refused
+pub mod Ages
+pub mod ThroughTheBus
