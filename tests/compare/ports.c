@@ -50,6 +50,29 @@ static void good_table(void)
     }
 }
 
+/* The conformance bed (61375-3-2): a device of one source and one sink; ports of every size, sinks and sources apart;
+ * the same in turn, from either side. */
+static void bed_table(void)
+{
+    static const struct mvb_port device[] = {{3360, 0, 0}, {3368, 0, 1}};
+    static const struct mvb_port every_size[] = {
+        {1, 0, 1}, {2, 1, 1}, {3, 2, 1}, {4, 3, 1}, {5, 4, 1},  {6, 0, 0},
+        {7, 1, 0}, {8, 2, 0}, {9, 3, 0}, {10, 4, 0}, {25, 3, 0}, {26, 2, 0},
+    };
+    unsigned kind = below(4);
+    if (kind == 0) {
+        bus.records = sizeof device / sizeof device[0];
+        memcpy(bus.table, device, sizeof device);
+    } else if (kind == 1) {
+        bus.records = sizeof every_size / sizeof every_size[0];
+        memcpy(bus.table, every_size, sizeof every_size);
+    } else {
+        bus.records = 10;
+        for (unsigned i = 0; i < 10; i++)
+            bus.table[i] = (struct mvb_port){(uint16_t)(i + 1), (uint8_t)(i / 2), i % 2 == kind % 2};
+    }
+}
+
 static void spoil_table(void)
 {
     size_t i = below((uint32_t)bus.records + 1) % MOST_RECORDS;
@@ -72,7 +95,10 @@ static void spoil_table(void)
 static void new_bus(void)
 {
     static const uint16_t old[3] = {65533, 65534, 65535};
-    good_table();
+    if (one_in(8))
+        bed_table();
+    else
+        good_table();
     bus.store_right = 0;
     for (size_t i = 0; i < bus.records; i++)
         bus.store_right += port_bytes(bus.table[i].f_code);
