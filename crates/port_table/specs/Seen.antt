@@ -9,7 +9,7 @@ use lib.ListN.{length, getD}
 use Rattle.port_table.specs.declared.Port.{Port}
 use Rattle.port_table.specs.declared.Place.{Place}
 use Rattle.port_table.specs.declared.Seen.{Seen}
-use Rattle.port_table.specs.Table.{good, tableBytes, placeOf, offsetOf, portOf, isSink}
+use Rattle.port_table.specs.Table.{good, tableBytes, placeOf, offsetOf, portOf}
 
 -- one more than the last address
 unfoldable pub nextFrom : ℕ → List Port → ℕ

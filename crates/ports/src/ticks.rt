@@ -50,6 +50,7 @@ fn age_all(count: usize, marks: [u64; 4], ages: &mut [u16])
     }
 }
 
+// 13; 4 for ages.
 pub(crate) fn tick(seen: Seen, ages: &mut [u16]) -> u32
     requires { ⌜ Showed seen ⌝ }
     ensures { λ r. ⌜ Ticked seen (now (ages .entry)) r (now (ages .exit)) ⌝ }
