@@ -14,7 +14,7 @@ use Rattle.frames.specs.Rows.{dataBytes}
 use Rattle.port_table.specs.declared.Port.{Port}
 use Rattle.port_table.specs.declared.Seen.{Seen}
 use Rattle.port_table.specs.Table.{good, portBytes, tableBytes, before, placeOf, offsetOf, portOf, noPort}
-use Rattle.port_table.specs.Seen.{Walked}
+use Rattle.port_table.specs.Inside.{Walked}
 use Rattle.port_table.proofs.OneMore.{bytes-append, bytes-more, place-most}
 use Rattle.port_table.proofs.Steps.{shown}
 

@@ -13,7 +13,8 @@ use Rattle.port_table.specs.declared.Port.{Port}
 use Rattle.port_table.specs.declared.Place.{Place}
 use Rattle.port_table.specs.declared.Seen.{Seen}
 use Rattle.port_table.specs.Table.{rising, good, portBytes, tableBytes, before, placeOf, noPort}
-use Rattle.port_table.specs.Seen.{nextFrom, mark, marksFrom, noMarks, emptySeen, goodSeen, seenOf, Walked, fits, placeAfter}
+use Rattle.port_table.specs.Seen.{nextFrom, mark, marksFrom, noMarks, emptySeen, goodSeen, seenOf}
+use Rattle.port_table.specs.Inside.{Walked, fits, placeAfter}
 use Rattle.port_table.proofs.OneMore.{by-cases, and-split, not-both, bytes-most, bytes-more, length-more, good-more, bad-more, next-more, marks-more, before-found, before-missed}
 
 -- ---- what a walk shows

@@ -10,7 +10,7 @@ use lib.ListN.{length, length-take, length-append, getD, take, drop, length-drop
 use lib.Seq.{take-all, take-length, take-at, drop-at, drop-drop, length-take-le, getD-take, getD-drop, getD-append-add}
 use Rattle.frames.specs.Rows.{dataBytes}
 use Rattle.port_table.specs.declared.Seen.{Seen}
-use Rattle.port_table.specs.Seen.{Walked}
+use Rattle.port_table.specs.Inside.{Walked}
 use Rattle.port_table.proofs.OneMore.{bytes-most, good-split}
 use Rattle.port_table.proofs.Steps.{shown}
 use Rattle.port_table.proofs.Places.{found-within}

@@ -7,9 +7,9 @@ ghost use Prim.Native.Nat.{_+_, _<_, _≤_};
 ghost use lib.ListN.{length};
 ghost use Rattle.frames.specs.Words.{fCode, address};
 ghost use Rattle.frames.specs.Rows.{dataBytes};
-ghost use Rattle.port_table.specs.Seen.{Walked};
+ghost use Rattle.port_table.specs.Inside.{Walked};
 ghost use Rattle.ports.specs.Lent.{replaced};
-ghost use Rattle.ports.specs.Shown.{Arrived, Answered, HasRead, Filled, Showed};
+ghost use Rattle.ports.specs.Inside.{Arrived, Answered, HasRead, Filled, Showed};
 
 fn value(n: usize) -> u32
     requires { ⌜ n < 65536 ⌝ }

@@ -49,7 +49,8 @@ use denote.Triple.Table.{entered, cited}
 use denote.Triple.Clauses.{ensured, lasts}
 use denote.Triple.Walked.{says, Stays, stay-none-slice, stay-none, walkOf, Walks, ends-at, walked, goes-none-slice, goes-none, walk-meets}
 use Rattle.port_table.specs.Table.{noPort}
-use Rattle.port_table.specs.Seen.{emptySeen, seenOf, Walked, WalkedOn}
+use Rattle.port_table.specs.Seen.{emptySeen, seenOf}
+use Rattle.port_table.specs.Inside.{Walked, WalkedOn}
 use Rattle.port_table.specs.declared.Port.{Port}
 use Rattle.port_table.specs.declared.Seen.{Seen}
 use Rattle.port_table.proofs.Steps.{none-shown}

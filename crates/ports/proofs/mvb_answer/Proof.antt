@@ -52,7 +52,7 @@ use Rattle.port_table.proofs.look.Symbol as look-def
 use Rattle.port_table.proofs.look.Symbol.{name as #look}
 use Rattle.port_table.proofs.look.Met as look-thm
 use Rattle.ports.specs.Answering.{answer, answerOut}
-use Rattle.ports.specs.Shown.{Answered}
+use Rattle.ports.specs.Inside.{Answered}
 use Rattle.ports.proofs.rules.answer as rule
 use Rattle.ports.proofs.rules.answer.Symbol as rule-def
 use Rattle.ports.proofs.rules.answer.Symbol.{name as #rule}

@@ -52,7 +52,7 @@ use Rattle.port_table.proofs.look.Symbol as look-def
 use Rattle.port_table.proofs.look.Symbol.{name as #look}
 use Rattle.port_table.proofs.look.Met as look-thm
 use Rattle.ports.specs.Arriving.{arrive, arriveStore, arriveAges}
-use Rattle.ports.specs.Shown.{Arrived}
+use Rattle.ports.specs.Inside.{Arrived}
 use Rattle.ports.proofs.rules.arrive as rule
 use Rattle.ports.proofs.rules.arrive.Symbol as rule-def
 use Rattle.ports.proofs.rules.arrive.Symbol.{name as #rule}

@@ -50,7 +50,7 @@ use Rattle.port_table.proofs.look.Symbol as look-def
 use Rattle.port_table.proofs.look.Symbol.{name as #look}
 use Rattle.port_table.proofs.look.Met as look-thm
 use Rattle.ports.specs.Ticking.{tick, tickAges}
-use Rattle.ports.specs.Shown.{Ticked}
+use Rattle.ports.specs.Inside.{Ticked}
 use Rattle.ports.proofs.ticks.tick as rule
 use Rattle.ports.proofs.ticks.tick.Symbol as rule-def
 use Rattle.ports.proofs.ticks.tick.Symbol.{name as #rule}

@@ -7,7 +7,7 @@ use native.Mathlib.Omega.{arith}
 use borrow.Author.Needs.{needs}
 use borrow.Author.Tests.{eq-eqb, ne-eqb}
 use Rattle.ports.specs.Ticking.{older}
-use Rattle.ports.specs.Shown.{olderBy}
+use Rattle.ports.specs.Inside.{olderBy}
 use Rattle.ports.proofs.ticks.older.Statement.{statement}
 use Rattle.ports.proofs.ticks.older.Tie as tie
 
