@@ -1,19 +1,18 @@
 -- A table with one record more: what each definition makes of it.
 -- Assumes nothing.
 use mathlib.Core.Path.{_≡_, refl, sym, ap, ap₂, _∙_}
-use mathlib.Core.Bool.{Bool, true, false, not, cond, _&&_}
+use mathlib.Core.Bool.{Bool, true, false, cond, _&&_}
 use mathlib.Core.List.{List, [], _∷_, _++_}
-use Prim.Native.Nat.{ℕ, zero, suc, _+_, _*_, _/_, _≤_, _<_}
+use Prim.Native.Nat.{ℕ, suc, _+_, _*_, _≤_, _<_}
 use native.Mathlib.Nat.{add-zero, zero-add, add-assoc}
 use native.Mathlib.Omega.{arith}
-use borrow.Author.Tests.{eq-eqb, ne-eqb, lt-ltb, le-ltb, le-leb, leb-true, ltb-true, eqb-true}
+use borrow.Author.Tests.{lt-ltb, le-leb, leb-true, ltb-true}
 use lib.Dec.{eqb, ltb, leb}
-use lib.ListN.{length, getD, length-append, List·getD-eq-default}
-use lib.Seq.{getD-append-seam}
-use Rattle.frames.specs.Rows.{dataBits, dataBytes}
+use lib.ListN.{length, length-append}
+use Rattle.frames.specs.Rows.{dataBytes}
 use Rattle.frames.proofs.Rows.{bits-most}
 use Rattle.port_table.specs.declared.Port.{Port}
-use Rattle.port_table.specs.Table.{rising, good, portBytes, tableBytes, before, placeOf, offsetOf, portOf, noPort}
+use Rattle.port_table.specs.Table.{rising, good, portBytes, tableBytes, before, placeOf}
 use Rattle.port_table.specs.Seen.{nextFrom, mark, marksFrom}
 
 -- ---- truth values

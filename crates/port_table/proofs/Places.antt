@@ -3,7 +3,7 @@
 use mathlib.Core.Path.{_≡_, refl, sym, ap, ap₂, _∙_, subst}
 use mathlib.Core.Bool.{Bool, true, false, not, cond}
 use mathlib.Core.List.{List, [], _∷_, _++_}
-use Prim.Native.Nat.{ℕ, zero, suc, _+_, _≤_, _<_}
+use Prim.Native.Nat.{ℕ, suc, _+_, _≤_, _<_}
 use native.Mathlib.Numerals.{add-one}
 use native.Mathlib.Omega.{arith}
 use borrow.Author.Tests.{eqb-true}
@@ -14,8 +14,8 @@ use Rattle.frames.specs.Rows.{dataBytes}
 use Rattle.port_table.specs.declared.Port.{Port}
 use Rattle.port_table.specs.declared.Seen.{Seen}
 use Rattle.port_table.specs.Table.{good, portBytes, tableBytes, before, placeOf, offsetOf, portOf, noPort}
-use Rattle.port_table.specs.Seen.{goodSeen, Walked}
-use Rattle.port_table.proofs.OneMore.{by-cases, bytes-append, bytes-more, place-most}
+use Rattle.port_table.specs.Inside.{Walked}
+use Rattle.port_table.proofs.OneMore.{bytes-append, bytes-more, place-most}
 use Rattle.port_table.proofs.Steps.{shown}
 
 before-take : (a : ℕ) (ps : List Port) → before a ps ≡ take (placeOf a ps) ps

@@ -1,21 +1,21 @@
 -- The walk's step, way out by way out: from what one table shows to what it shows with one record more.
 -- Assumes nothing.
 use mathlib.Core.Path.{_≡_, refl, sym, ap, ap₂, _∙_, subst}
-use mathlib.Core.Bool.{Bool, true, false, not, cond, _&&_}
+use mathlib.Core.Bool.{Bool, true, false, not, cond}
 use mathlib.Core.List.{List, [], _∷_, _++_, append-nil}
-use Prim.Native.Nat.{ℕ, zero, suc, _+_, _*_, _/_, _≤_, _<_}
+use Prim.Native.Nat.{ℕ, _+_, _*_, _≤_, _<_}
 use native.Mathlib.Omega.{arith}
 use borrow.Author.Tests.{eq-eqb, ne-eqb, lt-ltb, le-ltb, le-leb, leb-true, ltb-true, ltb-false, eqb-true, not-true, not-false}
 use lib.Dec.{eqb, ltb, leb}
 use lib.ListN.{length, getD, List·getD-append, List·getD-eq-default}
 use lib.Seq.{getD-append-seam}
-use Rattle.frames.specs.Rows.{dataBytes}
 use Rattle.port_table.specs.declared.Port.{Port}
 use Rattle.port_table.specs.declared.Place.{Place}
 use Rattle.port_table.specs.declared.Seen.{Seen}
-use Rattle.port_table.specs.Table.{rising, good, portBytes, tableBytes, before, placeOf, offsetOf, portOf, noPort}
-use Rattle.port_table.specs.Seen.{nextFrom, mark, marksFrom, noMarks, emptySeen, goodSeen, seenOf, Walked, fits, placeAfter}
-use Rattle.port_table.proofs.OneMore.{by-cases, and-split, not-both, size-most, bytes-most, bytes-more, length-more, good-split, good-more, bad-more, next-more, marks-more, place-most, before-found, before-missed}
+use Rattle.port_table.specs.Table.{rising, good, portBytes, tableBytes, before, placeOf, noPort}
+use Rattle.port_table.specs.Seen.{nextFrom, mark, marksFrom, noMarks, emptySeen, goodSeen, seenOf}
+use Rattle.port_table.specs.Inside.{Walked, fits, placeAfter}
+use Rattle.port_table.proofs.OneMore.{by-cases, and-split, not-both, bytes-most, bytes-more, length-more, good-more, bad-more, next-more, marks-more, before-found, before-missed}
 
 -- ---- what a walk shows
 

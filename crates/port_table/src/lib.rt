@@ -20,7 +20,8 @@ pub struct Place {
     pub sink: u8,
 }
 
-// What a walk of the table shows. `place.at` is `count` where no record has the address.
+// What a walk of the table shows: `next` is one more than the last address, `place.at` is `count` where no record has
+// the address, and `marks` holds a bit for each record, 1 for a sink. Of a table that is not good all else is 0.
 pub struct Seen {
     pub good: bool,
     pub next: u16,

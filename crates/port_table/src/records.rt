@@ -6,7 +6,8 @@ ghost use mathlib.Core.Path.{_≡_};
 ghost use mathlib.Core.Bool.{true};
 ghost use Prim.Native.Nat.{_+_, _*_, _/_, _%_, _^_, _<_};
 ghost use Rattle.frames.specs.Rows.{dataBytes};
-ghost use Rattle.port_table.specs.Seen.{emptySeen, markOf, mark, fits, placeAfter, Walked, WalkedOn};
+ghost use Rattle.port_table.specs.Seen.{emptySeen, markOf, mark};
+ghost use Rattle.port_table.specs.Inside.{fits, placeAfter, Walked, WalkedOn};
 
 // The highest bit of 64.
 const TOP: u64 = 9223372036854775808;

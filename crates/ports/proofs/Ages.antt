@@ -1,22 +1,22 @@
 -- After an arrival and n ticks a sink's age is n, at most 65,535; ticks change no data and no source's age.
 -- Assumes nothing.
-use mathlib.Core.Path.{_≡_, refl, sym, ap, ap₂, _∙_}
-use mathlib.Core.Bool.{Bool, true, false, not, cond}
-use mathlib.Core.List.{List, [], _∷_}
+use mathlib.Core.Path.{_≡_, refl, ap, _∙_}
+use mathlib.Core.Bool.{Bool, true, false, cond}
+use mathlib.Core.List.{List, [], _∷_, _++_}
 use Prim.Native.Nat.{ℕ, zero, suc, _+_, _≤_, _<_, min}
 use native.Mathlib.Omega.{arith}
 use borrow.Author.Tests.{le-ltb}
-use lib.Dec.{ltb}
-use lib.ListN.{length, getD}
+use lib.ListN.{length, getD, drop}
 use Rattle.refusals.specs.Told.{gives}
-use Rattle.frames.specs.Words.{address}
+use Rattle.frames.specs.Words.{fCode, address}
+use Rattle.frames.specs.Slave.{slaveData}
 use Rattle.port_table.specs.declared.Port.{Port}
-use Rattle.port_table.specs.Table.{good, noPort, placeOf, portOf, isSink}
-use Rattle.ports.specs.Arriving.{arriveRefusal, arrive, arriveAges}
+use Rattle.port_table.specs.Table.{good, noPort, portBytes, placeOf, portOf, isSink}
+use Rattle.ports.specs.Arriving.{arriveRefusal, arrive, arriveStore, arriveAges}
 use Rattle.ports.specs.Reading.{readRefusal, read, readOut, readAge}
 use Rattle.ports.specs.Ticking.{older, aged, tickRefusal, tickAges}
-use Rattle.ports.proofs.Outcomes.{accepted, either-way, without, Arrivable, arrivable}
-use Rattle.ports.proofs.OwnPortOnly.{ages-length, own-age}
+use Rattle.ports.proofs.Outcomes.{accepted, either-way, without, readable, arrivable}
+use Rattle.ports.proofs.OwnPortOnly.{store-length, ages-length, own-data, own-age}
 
 -- the ages after so many ticks
 abbrev pub afterTicks : ℕ → List Port → List ℕ → List ℕ
@@ -86,6 +86,21 @@ module _ (ps : List Port) (store ages : List ℕ) (word : ℕ) (frame : List ℕ
       let zero-age = own-age ps store ages word frame ok in
       ticks-sink n ps (arriveAges ps store ages word frame) (placeOf (address word) ps) (c .is-good) (omega (arith, c .all-ages, ages-length ps store ages word frame)) (c .is-sink) (c .there) (omega arith)
       ∙ (let e : min (getD (arriveAges ps store ages word frame) (placeOf (address word) ps) 0 + n) 65535 ≡ min n 65535 = omega arith in e)
+
+  -- so reads the application: the frame's data, and that age
+  pub read-after : (back : List ℕ) (age : ℕ) → portBytes (portOf (address word) ps) ≤ length back
+      → (readOut ps (arriveStore ps store ages word frame) (afterTicks n ps (arriveAges ps store ages word frame)) (address word) back ≡ slaveData (fCode word) frame ++ drop (portBytes (portOf (address word) ps)) back)
+      × (readAge ps (arriveStore ps store ages word frame) (afterTicks n ps (arriveAges ps store ages word frame)) (address word) back age ≡ min n 65535)
+  unfolding arrive readOut readAge
+  read-after back age room =
+      let c = arrivable ps store ages word frame (accepted (arriveRefusal ps store ages word frame) (0 ∷ []) (0 ∷ []) ok .0) in
+      let store₁ = arriveStore ps store ages word frame in
+      let ages₁ = afterTicks n ps (arriveAges ps store ages word frame) in
+      let l = ticks-length n ps (arriveAges ps store ages word frame) in
+      let z = readable ps store₁ ages₁ (address word) back (c .is-good) (omega (arith, c .stored, store-length ps store ages word frame)) (omega (arith, c .all-ages, ages-length ps store ages word frame)) (c .there) (c .is-sink) room in (
+        without (readRefusal ps store₁ ages₁ (address word) back) _ back z ∙ ap (λ (d : List ℕ). d ++ drop (portBytes (portOf (address word) ps)) back) (own-data ps store ages word frame ok),
+        without (readRefusal ps store₁ ages₁ (address word) back) _ age z ∙ age-after,
+      )
 
 -- ticks change no answer of a read and no data that it gives
 pub ticks-keep-data : (n : ℕ) (ps : List Port) (store ages : List ℕ) (a : ℕ) (out : List ℕ)

@@ -1,7 +1,7 @@
 -- Bytes put into the store and taken from it, as the code's parts of slices have them.
 -- Assumes nothing.
 use mathlib.Core.Path.{_≡_, refl, sym, ap, ap₂, _∙_, subst}
-use mathlib.Core.List.{List, [], _∷_, _++_, append-nil, append-assoc}
+use mathlib.Core.List.{List, _++_, append-nil}
 use Prim.Native.Nat.{ℕ, _+_, _-_, _≤_, _<_}
 use native.Mathlib.Omega.{arith}
 use borrow.Rule.Slice.PartMut.{putMid}
@@ -10,7 +10,7 @@ use lib.ListN.{length, length-take, length-append, getD, take, drop, length-drop
 use lib.Seq.{take-all, take-length, take-at, drop-at, drop-drop, length-take-le, getD-take, getD-drop, getD-append-add}
 use Rattle.frames.specs.Rows.{dataBytes}
 use Rattle.port_table.specs.declared.Seen.{Seen}
-use Rattle.port_table.specs.Seen.{Walked}
+use Rattle.port_table.specs.Inside.{Walked}
 use Rattle.port_table.proofs.OneMore.{bytes-most, good-split}
 use Rattle.port_table.proofs.Steps.{shown}
 use Rattle.port_table.proofs.Places.{found-within}

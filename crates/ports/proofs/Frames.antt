@@ -1,16 +1,16 @@
 -- What the frames' reader and writer say of a Process Data port's frame: only 1, 2 and, for the output, 4 are left.
 -- Assumes nothing.
-use mathlib.Core.Path.{_≡_, refl, sym, ap, ap₂, _∙_, subst}
+use mathlib.Core.Path.{_≡_, refl, sym, ap, _∙_}
 use mathlib.Core.Bool.{Bool, true, false, not, cond}
 use mathlib.Core.List.{List, [], _∷_, _++_}
-use Prim.Native.Nat.{ℕ, zero, suc, _+_, _-_, _*_, _≤_, _<_}
+use Prim.Native.Nat.{ℕ, zero, suc, _+_, _-_, _*_, _≤_}
 use native.Mathlib.Nat.{suc-mul}
 use native.Mathlib.Omega.{arith}
-use borrow.Author.Tests.{eq-eqb, ne-eqb, lt-ltb, le-ltb}
+use borrow.Author.Tests.{eq-eqb, le-ltb}
 use lib.Dec.{eqb, ltb}
 use lib.ListN.{length, take, drop, length-append, length-drop}
 use lib.Seq.{take-at, length-take-le}
-use Rattle.refusals.specs.Told.{Told, gives, refused, refusal, refusing}
+use Rattle.refusals.specs.Told.{Told, gives, refusal, refusing}
 use Rattle.refusals.specs.declared.Refusal.{Refusal}
 use Rattle.refusals.specs.Refusals.{numberOf}
 use Rattle.refusals.proofs.Apart.{never-both}
@@ -19,11 +19,11 @@ use Rattle.frames.specs.declared.Wrote.the-variants as Wrote'
 use Rattle.frames.specs.Answers.{toldWrote}
 use Rattle.frames.specs.Rows.{dataBits, reserved, dataBytes, blocks, blockBytes, frameBytes}
 use Rattle.frames.specs.Blocks.{dataIn, allRight, rightBlocks}
-use Rattle.frames.specs.Slave.{slaveData, slaveFrame, slaveReadBy, slaveRead, slaveReadOut, slaveWriteBy, slaveWrite, slaveWriteOut}
-use Rattle.frames.proofs.Order.{read-done, write-done}
+use Rattle.frames.specs.Slave.{slaveData, slaveFrame, slaveRead, slaveReadOut, slaveWrite, slaveWriteOut}
+use Rattle.frames.proofs.Order.{read-done}
 use Rattle.frames.proofs.Rows.{full, whole, whole-most}
-use Rattle.frames.proofs.RoundTrip.{slave-accepted, slave-frame-length}
-use Rattle.port_table.proofs.OneMore.{by-cases, size-most}
+use Rattle.frames.proofs.RoundTrip.{slave-accepted}
+use Rattle.port_table.proofs.OneMore.{size-most}
 
 -- "1; 2" of a frame
 abbrev pub frameCheck : ℕ → List ℕ → ℕ

@@ -16,7 +16,7 @@ use Rattle.port_table.specs.Table.{isSink, noPort}
 use Rattle.port_table.specs.Seen.{markOf, mark, marksFrom, noMarks}
 use Rattle.port_table.proofs.OneMore.{by-cases, four, marks-more}
 use Rattle.ports.specs.Ticking.{older, aged}
-use Rattle.ports.specs.Shown.{olderBy, unmark, agedDown}
+use Rattle.ports.specs.Inside.{olderBy, unmark, agedDown}
 
 -- before record i the marks are a number of i bits, in four parts
 pub record Bits (m : List ℕ) (i : ℕ) : Type 0 where

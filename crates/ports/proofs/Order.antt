@@ -8,8 +8,7 @@ use native.Mathlib.Omega.{arith}
 use borrow.Author.Tests.{eq-eqb, ne-eqb, lt-ltb, le-ltb, not-true, not-false}
 use lib.Dec.{eqb, ltb}
 use lib.ListN.{length, getD, set, take, drop}
-use lib.Seq.{take-at}
-use Rattle.refusals.specs.Told.{Told, gives, refused, refusal, refusing}
+use Rattle.refusals.specs.Told.{gives, refusal, refusing}
 use Rattle.refusals.specs.declared.Refusal.{Refusal}
 use Rattle.refusals.specs.declared.Refusal.the-variants.{WrongLength, TooShort, TableNotGood, NotProcessData, NoSuchPort, FcodeNotPorts, WrongDirection}
 use Rattle.refusals.specs.Refusals.{numberOf}
@@ -30,8 +29,8 @@ use Rattle.ports.specs.Arriving.{arriveRefusal, arrive, arriveStore, arr
 use Rattle.ports.specs.Answering.{answerRefusal, answer, answerOut}
 use Rattle.ports.specs.Reading.{readRefusal, read, readOut, readAge}
 use Rattle.ports.specs.Filling.{fillRefusal, fill, fillStore}
-use Rattle.ports.specs.Ticking.{tickRefusal, tick, tickAges, aged}
-use Rattle.ports.specs.Shown.{Arrived, Answered, HasRead, Filled, Ticked, Showed, agedDown}
+use Rattle.ports.specs.Ticking.{tickRefusal, tick, tickAges}
+use Rattle.ports.specs.Inside.{Arrived, Answered, HasRead, Filled, Ticked, Showed, agedDown}
 use Rattle.ports.proofs.Bytes.{front, front-is, length-part}
 use Rattle.ports.proofs.Marks.{aged-down}
 use Rattle.ports.proofs.Frames.{frameCheck, outCheck, read-gives, read-refuses, write-gives, write-refuses}

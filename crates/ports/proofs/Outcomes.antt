@@ -1,24 +1,24 @@
 -- A call is accepted, and then no check of its order failed, or it is refused, and then nothing changed.
 -- Assumes nothing.
-use mathlib.Core.Path.{_≡_, refl, sym, ap, _∙_}
-use mathlib.Core.Bool.{Bool, true, false, not, cond, _&&_}
-use mathlib.Core.List.{List, [], _∷_}
-use Prim.Native.Nat.{ℕ, zero, suc, _≤_, _<_}
+use mathlib.Core.Path.{_≡_, refl, ap}
+use mathlib.Core.Bool.{Bool, true, false, not, cond}
+use mathlib.Core.List.{List}
+use Prim.Native.Nat.{ℕ, suc, _≤_, _<_}
 use native.Mathlib.Omega.{arith}
-use borrow.Author.Tests.{eqb-true, ltb-true, ltb-false, not-true, not-false}
+use borrow.Author.Tests.{lt-ltb, le-ltb, eqb-true, ltb-true, ltb-false, not-false}
 use lib.Dec.{eqb, ltb}
 use lib.ListN.{length}
-use Rattle.refusals.specs.Told.{Told, gives, refused, refusal}
+use Rattle.refusals.specs.Told.{gives, refused, refusal}
 use Rattle.frames.specs.Words.{fCode, address}
 use Rattle.frames.specs.Rows.{frameBytes, blocks, blockBytes}
 use Rattle.frames.specs.Blocks.{rightBlocks, allRight}
 use Rattle.port_table.specs.declared.Port.{Port}
 use Rattle.port_table.specs.Table.{good, portBytes, tableBytes, placeOf, listed, portOf, isSink}
 use Rattle.ports.specs.Lent.{answered, unlessRefused}
-use Rattle.ports.specs.Arriving.{arriveRefusal, arrive}
-use Rattle.ports.specs.Answering.{answerRefusal, answer}
-use Rattle.ports.specs.Reading.{readRefusal, read}
-use Rattle.ports.specs.Filling.{fillRefusal, fill}
+use Rattle.ports.specs.Arriving.{arriveRefusal}
+use Rattle.ports.specs.Answering.{answerRefusal}
+use Rattle.ports.specs.Reading.{readRefusal}
+use Rattle.ports.specs.Filling.{fillRefusal}
 
 -- values are given only without a refusal
 pub accepted : (m : ℕ) (values v : List ℕ) → answered m values ≡ gives v → (m ≡ 0) × (values ≡ v)
@@ -131,3 +131,10 @@ fillable ps store a d h =
       there = ltb-true _ _ (not-false _ (p15 .0));
       long = eqb-true _ _ (not-false _ (p1 .0));
     }
+
+-- a read finds all that it wants
+pub readable : (ps : List Port) (store ages : List ℕ) (a : ℕ) (out : List ℕ) → good ps ≡ true → tableBytes ps ≤ length store → length ps ≤ length ages → placeOf a ps < length ps → isSink (portOf a ps) ≡ true
+    → portBytes (portOf a ps) ≤ length out → readRefusal ps store ages a out ≡ 0
+unfolding readRefusal
+readable ps store ages a out g s n h k r =
+    simp (g, le-ltb (length store) (tableBytes ps) s, le-ltb (length ages) (length ps) n, lt-ltb (placeOf a ps) (length ps) h, k, le-ltb (length out) (portBytes (portOf a ps)) r)

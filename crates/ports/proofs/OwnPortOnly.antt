@@ -1,13 +1,13 @@
 -- "A Process Data frame touches its own port only" (demand 2): the bytes outside the port its word names and all other
 -- ages are as before; of an accepted one the port holds the data, and its age is 0.
 -- Assumes nothing.
-use mathlib.Core.Path.{_≡_, refl, sym, ap, ap₂, _∙_, subst}
-use mathlib.Core.List.{List, [], _∷_, _++_}
+use mathlib.Core.Path.{_≡_, refl, sym, ap, ap₂, _∙_}
+use mathlib.Core.List.{List, [], _∷_}
 use mathlib.Core.Logic.{_⊎_, inl, inr}
 use Prim.Native.Nat.{ℕ, _+_, _-_, _≤_, _<_}
 use native.Mathlib.Decide.{decLe}
 use native.Mathlib.Omega.{arith}
-use lib.ListN.{length, getD, set, take, drop, length-set, length-drop}
+use lib.ListN.{length, getD, take, drop, length-set, length-drop}
 use lib.Seq.{getD-set-same, getD-set-other, ext-getD, getD-take, getD-drop, length-take-le}
 use Rattle.refusals.specs.Told.{gives}
 use Rattle.frames.specs.Words.{fCode, address}
@@ -16,7 +16,7 @@ use Rattle.frames.specs.Slave.{slaveData}
 use Rattle.port_table.specs.declared.Port.{Port}
 use Rattle.port_table.specs.Table.{portBytes, tableBytes, placeOf, offsetOf, portOf}
 use Rattle.port_table.proofs.Places.{within, in-order, place-apart}
-use Rattle.ports.specs.Lent.{portData, replaced}
+use Rattle.ports.specs.Lent.{portData}
 use Rattle.ports.specs.Arriving.{arriveRefusal, arrive, arriveStore, arriveAges}
 use Rattle.ports.proofs.Frames.{slave-data-length}
 use Rattle.ports.proofs.Outcomes.{accepted, either-way, without, Arrivable, arrivable}

@@ -2,13 +2,12 @@
 -- arrive and read give the same data, with age 0.
 -- Assumes nothing.
 use mathlib.Core.Path.{_≡_, refl, sym, ap, ap₂, _∙_}
-use mathlib.Core.Bool.{Bool, true, false, not, cond}
+use mathlib.Core.Bool.{true}
 use mathlib.Core.List.{List, [], _∷_, _++_}
 use Prim.Native.Nat.{ℕ, _+_, _≤_, _<_}
 use native.Mathlib.Omega.{arith}
 use borrow.Author.Tests.{eq-eqb, lt-ltb, le-ltb}
-use lib.Dec.{eqb, ltb}
-use lib.ListN.{length, getD, take, drop}
+use lib.ListN.{length, take, drop}
 use lib.Seq.{take-at}
 use Rattle.refusals.specs.Told.{gives, refusal}
 use Rattle.frames.specs.Words.{fCode, address}
@@ -20,14 +19,14 @@ use Rattle.frames.proofs.RoundTrip.{slave-accepted, slave-frame-length, slave-w
 use Rattle.port_table.specs.declared.Port.{Port}
 use Rattle.port_table.specs.Table.{good, portBytes, tableBytes, placeOf, offsetOf, portOf, isSink}
 use Rattle.port_table.proofs.Places.{within}
-use Rattle.ports.specs.Lent.{answered, unlessRefused, portData, replaced}
+use Rattle.ports.specs.Lent.{answered, portData}
 use Rattle.ports.specs.Arriving.{arriveRefusal, arrive, arriveStore, arriveAges}
 use Rattle.ports.specs.Answering.{answerRefusal, answer, answerOut}
 use Rattle.ports.specs.Reading.{readRefusal, read, readOut, readAge}
 use Rattle.ports.specs.Filling.{fillRefusal, fill, fillStore}
 use Rattle.ports.proofs.Frames.{process-data, read-gives}
 use Rattle.ports.proofs.Bytes.{replaced-own}
-use Rattle.ports.proofs.Outcomes.{accepted, without, Answerable, answerable, Fillable, fillable}
+use Rattle.ports.proofs.Outcomes.{accepted, without, readable, Answerable, answerable, Fillable, fillable}
 use Rattle.ports.proofs.OwnPortOnly.{own-data, own-age, store-length, ages-length}
 
 -- a Slave Frame of the port's data is right, and carries these data (the frames' round trip)
@@ -131,18 +130,6 @@ module _ (ps : List Port) (store : List ℕ) (word : ℕ) (d out : List ℕ) (n 
   abbrev ages₁ : List ℕ
   ages₁ = arriveAges qs store' ages' word frame
 
-  readable : (back : List ℕ) → length d ≤ length back → readRefusal qs store₁ ages₁ (address word) back ≡ 0
-  unfolding readRefusal
-  readable back room =
-      simp (
-        sink .is-good,
-        le-ltb (length store₁) (tableBytes qs) (omega (arith, sink .stored, store-length qs store' ages' word frame)),
-        le-ltb (length ages₁) (length qs) (omega (arith, sink .all-ages, ages-length qs store' ages' word frame)),
-        lt-ltb (placeOf (address word) qs) (length qs) (sink .there),
-        sink .is-sink,
-        le-ltb (length back) (portBytes (portOf (address word) qs)) (omega (arith, long, ap dataBytes (sink .same-code))),
-      )
-
   -- and its reader gets the same data
   pub same-data : (back : List ℕ) (age : ℕ) → length d ≤ length back
       → (read qs store₁ ages₁ (address word) back ≡ gives (length d ∷ []))
@@ -150,7 +137,7 @@ module _ (ps : List Port) (store : List ℕ) (word : ℕ) (d out : List ℕ) (n 
       × (readAge qs store₁ ages₁ (address word) back age ≡ 0)
   unfolding read readOut readAge
   same-data back age room =
-      let z = readable back room in
+      let z = readable qs store₁ ages₁ (address word) back (sink .is-good) (omega (arith, sink .stored, store-length qs store' ages' word frame)) (omega (arith, sink .all-ages, ages-length qs store' ages' word frame)) (sink .there) (sink .is-sink) (omega (arith, long, ap dataBytes (sink .same-code))) in
       let size : portBytes (portOf (address word) qs) ≡ length d = ap dataBytes (sink .same-code) ∙ sym long in
       let held : portData qs (address word) store₁ ≡ d = own-data qs store' ages' word frame taken ∙ ap (slaveData (fCode word)) frame-is ∙ carried (fCode word) d (asked .process) long .1 in (
         ap (λ (m : ℕ). answered m (portBytes (portOf (address word) qs) ∷ [])) z ∙ ap (λ (k : ℕ). gives (k ∷ [])) size,

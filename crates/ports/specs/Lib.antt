@@ -4,4 +4,4 @@ pub mod Answering
 pub mod Reading
 pub mod Filling
 pub mod Ticking
-pub mod Shown
+pub mod Inside

@@ -1,6 +1,6 @@
 -- "a tick raises every sink's age by 1, staying at 65,535, and no source's" (document 01, "Ports and ages").
 -- Assumes nothing.
-use mathlib.Core.Bool.{Bool, not, cond}
+use mathlib.Core.Bool.{not, cond}
 use mathlib.Core.List.{List, [], _∷_}
 use Prim.Native.Nat.{ℕ, _+_, min}
 use lib.Dec.{ltb}

@@ -7,9 +7,9 @@ ghost use Prim.Native.Nat.{_+_, _<_, _≤_};
 ghost use lib.ListN.{length};
 ghost use Rattle.frames.specs.Words.{fCode, address};
 ghost use Rattle.frames.specs.Rows.{dataBytes};
-ghost use Rattle.port_table.specs.Seen.{Walked};
+ghost use Rattle.port_table.specs.Inside.{Walked};
 ghost use Rattle.ports.specs.Lent.{replaced};
-ghost use Rattle.ports.specs.Shown.{Arrived, Answered, HasRead, Filled, Showed};
+ghost use Rattle.ports.specs.Inside.{Arrived, Answered, HasRead, Filled, Showed};
 
 fn value(n: usize) -> u32
     requires { ⌜ n < 65536 ⌝ }
@@ -39,6 +39,7 @@ fn put(data: &[u8], store: &mut [u8], offset: usize)
     bytes::copy(data, &mut store[offset..]);
 }
 
+// 13; 4 for store, then ages; 14; 15; 16; 17; 1 and 2 of the frame. The data passes through a scratch area.
 pub(crate) fn arrive(seen: Seen, store: &mut [u8], ages: &mut [u16], word: u16, frame: &[u8]) -> u32
     requires { ⌜ Walked seen (address word) ⌝ }
     ensures { λ r. ⌜ Arrived seen (now (store .entry)) (now (ages .entry)) word (now (frame .entry)) r (now (store .exit)) (now (ages .exit)) ⌝ }
@@ -80,6 +81,7 @@ pub(crate) fn arrive(seen: Seen, store: &mut [u8], ages: &mut [u16], word: u16, 
     }
 }
 
+// 13; 4 for store; 14; 15; 16; 17; 4 for the output.
 pub(crate) fn answer(seen: Seen, store: &[u8], word: u16, out: &mut [u8]) -> u32
     requires { ⌜ Walked seen (address word) ⌝ }
     ensures { λ r. ⌜ Answered seen (now (store .entry)) word (now (out .entry)) r (now (out .exit)) ⌝ }
@@ -114,6 +116,7 @@ pub(crate) fn answer(seen: Seen, store: &[u8], word: u16, out: &mut [u8]) -> u32
     }
 }
 
+// 13; 4 for store, then ages; 15; 17; 4 for the output.
 pub(crate) fn read(seen: Seen, store: &[u8], ages: &[u16], out: &mut [u8], age: &mut u16) -> u32
     requires { ⌜ Showed seen ⌝ }
     ensures { λ r. ⌜ HasRead seen (now (store .entry)) (now (ages .entry)) (now (out .entry)) (now (age .entry)) r (now (out .exit)) (now (age .exit)) ⌝ }
@@ -147,6 +150,7 @@ pub(crate) fn read(seen: Seen, store: &[u8], ages: &[u16], out: &mut [u8], age: 
     value(size)
 }
 
+// 13; 4 for store; 15; 17; 1.
 pub(crate) fn fill(seen: Seen, store: &mut [u8], data: &[u8]) -> u32
     requires { ⌜ Showed seen ⌝ }
     ensures { λ r. ⌜ Filled seen (now (store .entry)) (now («data» .entry)) r (now (store .exit)) ⌝ }

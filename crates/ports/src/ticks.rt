@@ -4,7 +4,10 @@ use refusals::Refusal;
 ghost use mathlib.Core.Path.{_≡_};
 ghost use Prim.Native.Nat.{_+_, _*_, _/_, _%_, _^_, _≤_};
 ghost use lib.ListN.{length};
-ghost use Rattle.ports.specs.Shown.{Ticked, Showed, agedDown, olderBy, unmark};
+ghost use Rattle.ports.specs.Inside.{Ticked, Showed, agedDown, olderBy, unmark};
+
+// The highest bit of 64.
+const TOP: u64 = 9223372036854775808;
 
 fn older(mark: u64, age: u16) -> u16
     ensures { λ r. ⌜ r ≡ olderBy mark age ⌝ }
@@ -21,7 +24,7 @@ fn older(mark: u64, age: u16) -> u16
 fn down(part: u64, above: u64) -> u64
     ensures { λ r. ⌜ r ≡ part / 2 + above % 2 * 2 ^ 63 ⌝ }
 {
-    part / 2 + above % 2 * 9223372036854775808
+    part / 2 + above % 2 * TOP
 }
 
 // The marks without the newest.
@@ -50,6 +53,7 @@ fn age_all(count: usize, marks: [u64; 4], ages: &mut [u16])
     }
 }
 
+// 13; 4 for ages.
 pub(crate) fn tick(seen: Seen, ages: &mut [u16]) -> u32
     requires { ⌜ Showed seen ⌝ }
     ensures { λ r. ⌜ Ticked seen (now (ages .entry)) r (now (ages .exit)) ⌝ }

@@ -1,7 +1,7 @@
 -- `ports::mvb_answer` meets its contract: a walk of its MIR, by hand. `look` is called on the table, and `answer` on what it showed and on what was lent, which is given up for good.
 -- Assumes nothing.
 use mathlib.Core.Path.{_≡_, refl}
-use Prim.Native.Nat.{ℕ, _%_, _<_, _^_}
+use Prim.Native.Nat.{ℕ, _<_, _^_}
 use native.Mathlib.Omega.{arith}
 use mathlib.Core.List.{List, [], _∷_}
 use lib.ListN.{length}
@@ -52,7 +52,7 @@ use Rattle.port_table.proofs.look.Symbol as look-def
 use Rattle.port_table.proofs.look.Symbol.{name as #look}
 use Rattle.port_table.proofs.look.Met as look-thm
 use Rattle.ports.specs.Answering.{answer, answerOut}
-use Rattle.ports.specs.Shown.{Answered}
+use Rattle.ports.specs.Inside.{Answered}
 use Rattle.ports.proofs.rules.answer as rule
 use Rattle.ports.proofs.rules.answer.Symbol as rule-def
 use Rattle.ports.proofs.rules.answer.Symbol.{name as #rule}

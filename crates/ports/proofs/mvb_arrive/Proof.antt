@@ -1,7 +1,7 @@
 -- `ports::mvb_arrive` meets its contract: a walk of its MIR, by hand. `look` is called on the table, and `arrive` on what it showed and on what was lent, which is given up for good.
 -- Assumes nothing.
 use mathlib.Core.Path.{_≡_, refl}
-use Prim.Native.Nat.{ℕ, _%_, _<_, _^_}
+use Prim.Native.Nat.{ℕ, _<_, _^_}
 use native.Mathlib.Omega.{arith}
 use mathlib.Core.List.{List, [], _∷_}
 use lib.ListN.{length}
@@ -52,7 +52,7 @@ use Rattle.port_table.proofs.look.Symbol as look-def
 use Rattle.port_table.proofs.look.Symbol.{name as #look}
 use Rattle.port_table.proofs.look.Met as look-thm
 use Rattle.ports.specs.Arriving.{arrive, arriveStore, arriveAges}
-use Rattle.ports.specs.Shown.{Arrived}
+use Rattle.ports.specs.Inside.{Arrived}
 use Rattle.ports.proofs.rules.arrive as rule
 use Rattle.ports.proofs.rules.arrive.Symbol as rule-def
 use Rattle.ports.proofs.rules.arrive.Symbol.{name as #rule}

@@ -49,7 +49,7 @@ use Rattle.port_table.proofs.look.Symbol as look-def
 use Rattle.port_table.proofs.look.Symbol.{name as #look}
 use Rattle.port_table.proofs.look.Met as look-thm
 use Rattle.ports.specs.Filling.{fill, fillStore}
-use Rattle.ports.specs.Shown.{Filled}
+use Rattle.ports.specs.Inside.{Filled}
 use Rattle.ports.proofs.rules.fill as rule
 use Rattle.ports.proofs.rules.fill.Symbol as rule-def
 use Rattle.ports.proofs.rules.fill.Symbol.{name as #rule}

@@ -49,7 +49,7 @@ use Rattle.port_table.proofs.look.Symbol as look-def
 use Rattle.port_table.proofs.look.Symbol.{name as #look}
 use Rattle.port_table.proofs.look.Met as look-thm
 use Rattle.ports.specs.Reading.{read, readOut, readAge}
-use Rattle.ports.specs.Shown.{HasRead}
+use Rattle.ports.specs.Inside.{HasRead}
 use Rattle.ports.proofs.rules.read as rule
 use Rattle.ports.proofs.rules.read.Symbol as rule-def
 use Rattle.ports.proofs.rules.read.Symbol.{name as #rule}

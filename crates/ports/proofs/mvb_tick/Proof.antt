@@ -1,7 +1,7 @@
 -- `ports::mvb_tick` meets its contract: a walk of its MIR, by hand. `look` is called on the table, and `tick` on what it showed and on what was lent, which is given up for good.
 -- Assumes nothing.
 use mathlib.Core.Path.{_≡_, refl}
-use Prim.Native.Nat.{ℕ, _<_, _^_}
+use Prim.Native.Nat.{ℕ, _<_}
 use mathlib.Core.List.{List, [], _∷_}
 use lib.ListN.{length}
 use lib.Dec.{lit<}
@@ -50,7 +50,7 @@ use Rattle.port_table.proofs.look.Symbol as look-def
 use Rattle.port_table.proofs.look.Symbol.{name as #look}
 use Rattle.port_table.proofs.look.Met as look-thm
 use Rattle.ports.specs.Ticking.{tick, tickAges}
-use Rattle.ports.specs.Shown.{Ticked}
+use Rattle.ports.specs.Inside.{Ticked}
 use Rattle.ports.proofs.ticks.tick as rule
 use Rattle.ports.proofs.ticks.tick.Symbol as rule-def
 use Rattle.ports.proofs.ticks.tick.Symbol.{name as #rule}

@@ -1,6 +1,6 @@
 -- `port_table::records::data_bytes` meets its contract: an arm for each F_code.
 -- Assumes nothing.
-use mathlib.Core.Path.{_≡_, refl, ap, sym, _∙_}
+use mathlib.Core.Path.{_≡_, ap, sym}
 use Prim.Native.Nat.{ℕ}
 use native.Mathlib.Omega.{arith}
 use Rattle.frames.specs.Rows.{dataBits, dataBytes}

@@ -1,7 +1,7 @@
 -- `ports::rules::arrive` meets its contract: each way out is one of the order of checks.
 -- Assumes nothing.
 use mathlib.Core.Path.{_≡_, refl, sym, ap, _∙_}
-use Prim.Native.Nat.{ℕ, _≤_}
+use Prim.Native.Nat.{_≤_}
 use native.Mathlib.Omega.{arith}
 use Rattle.frames.specs.Rows.{dataBytes}
 use Rattle.frames.specs.Words.{address}

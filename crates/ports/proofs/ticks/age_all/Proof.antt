@@ -2,11 +2,11 @@
 -- Assumes nothing.
 use mathlib.Core.Path.{_≡_, refl, sym, ap, ap₂, _∙_}
 use mathlib.Core.List.{List}
-use Prim.Native.Nat.{ℕ, zero, suc, _+_, _-_, _/_, _%_, _≤_, _<_}
+use Prim.Native.Nat.{ℕ, zero, suc, _-_, _%_, _≤_, _<_}
 use native.Mathlib.Omega.{arith}
 use lib.ListN.{length, getD, set, length-set}
 use borrow.Author.Needs.{needs}
-use Rattle.ports.specs.Shown.{agedDown, olderBy, unmark}
+use Rattle.ports.specs.Inside.{agedDown, olderBy, unmark}
 use Rattle.ports.proofs.ticks.age_all.Statement.{statement}
 use Rattle.ports.proofs.ticks.age_all.Tie as tie
 

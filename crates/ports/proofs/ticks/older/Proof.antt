@@ -2,12 +2,12 @@
 -- Assumes nothing.
 use mathlib.Core.Path.{_≡_, sym, ap, _∙_}
 use mathlib.Core.Bool.{Bool, cond}
-use Prim.Native.Nat.{ℕ, _+_, _≤_, _<_, min}
+use Prim.Native.Nat.{ℕ}
 use native.Mathlib.Omega.{arith}
 use borrow.Author.Needs.{needs}
 use borrow.Author.Tests.{eq-eqb, ne-eqb}
 use Rattle.ports.specs.Ticking.{older}
-use Rattle.ports.specs.Shown.{olderBy}
+use Rattle.ports.specs.Inside.{olderBy}
 use Rattle.ports.proofs.ticks.older.Statement.{statement}
 use Rattle.ports.proofs.ticks.older.Tie as tie
 

@@ -1,4 +1,4 @@
--- What the rules promise over what a walk showed: the same as the calls, of every table that shows it.
+-- What the functions inside the crate promise each other: the rules, over what a walk showed, the same as the calls of every table that shows it.
 -- Assumes nothing.
 use mathlib.Core.Path.{_≡_}
 use mathlib.Core.Bool.{cond}
@@ -10,7 +10,8 @@ use Rattle.refusals.specs.Codes.{toldCode}
 use Rattle.frames.specs.Words.{address}
 use Rattle.port_table.specs.declared.Port.{Port}
 use Rattle.port_table.specs.declared.Seen.{Seen}
-use Rattle.port_table.specs.Seen.{seenOf, Walked}
+use Rattle.port_table.specs.Seen.{seenOf}
+use Rattle.port_table.specs.Inside.{Walked}
 use Rattle.ports.specs.Arriving.{arrive, arriveStore, arriveAges}
 use Rattle.ports.specs.Answering.{answer, answerOut}
 use Rattle.ports.specs.Reading.{read, readOut, readAge}
