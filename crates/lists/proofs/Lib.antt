@@ -14,3 +14,4 @@ pub mod WasLaws
 pub mod ClashLaws
 pub mod Acceptance
 pub mod PlainLaws
+pub mod OrderLaws

@@ -7,3 +7,4 @@ pub mod Answers
 pub mod Inside
 pub mod Written
 pub mod Plain
+pub mod Order

@@ -8,10 +8,10 @@ use native.Mathlib.Numerals.{add-one}
 use native.Mathlib.Omega.{arith}
 use borrow.Author.Tests.{lt-ltb, le-ltb, le-leb, lt-leb}
 use lib.Dec.{ltb, leb}
-use lib.ListN.{length, getD, take, drop, length-append, length-drop, length-take, drop-of-length-le}
+use lib.ListN.{length, getD, take, drop, length-append, length-drop, length-take, drop-of-length-le, take-append-drop}
 use borrow.Rule.Slice.PartMut.{putMid, same-len-mid}
 use lib.Pow.{pow-pos, pow-mono}
-use lib.Seq.{take-all, take-at, drop-append-seam, drop-drop, length-take-le, take-length}
+use lib.Seq.{drop-append-le, take-all, take-at, drop-append-seam, drop-drop, length-take-le, take-length}
 use Rattle.refusals.specs.declared.Refusal.{Refusal}
 use Rattle.refusals.specs.Refusals.{numberOf}
 use Rattle.refusals.specs.Told.{Told, gives, refusing, refusal}
@@ -315,6 +315,21 @@ module _ (s : List ℕ) (ms j : ℕ) (out : List ℕ) (k : IsList s ms) where
 
     pub m-most : length sent ≡ 64 → m ≤ length sent
     m-most e = omega (arith, count, k .obeys .frames j (omega (arith, ap periodsOf (k .same))))
+
+    -- where sent is the front of out
+    pub send-straight : 64 ≤ length out → sent₀ ≡ take 64 out → Answer s j out (gives (m ∷ [])) (sent ++ drop 64 out)
+    unfolding periodBy
+    send-straight l q =
+        let a : accepted s ≡ yes (k .l) [] = is-read s ms k in
+        let f : length (sends (k .l) j) ≤ 64 = k .obeys .frames j (omega (arith, ap periodsOf (k .same))) in
+        let b : leb (length (sends (k .l) j)) (length out) ≡ true = le-leb (length (sends (k .l) j)) (length out) (omega arith) in
+        let n : length (take 64 out) ≡ 64 = length-take-le 64 out l in
+        let d : drop m sent₀ ++ drop 64 out ≡ drop m out =
+        ap (λ (x : List ℕ). drop m x ++ drop 64 out) q ∙ sym (drop-append-le m (take 64 out) (drop 64 out) (omega (arith, count))) ∙ ap (drop m) (take-append-drop 64 out) in
+        let e : sent ++ drop 64 out ≡ sends (k .l) j ++ drop (length (sends (k .l) j)) out =
+        ap (λ (x : List ℕ). x ++ drop 64 out) (w (k .l) (k .obeys) (k .written-so) .1) ∙ append-assoc (sends (k .l) j) (drop m sent₀) (drop 64 out)
+        ∙ ap (λ (x : List ℕ). sends (k .l) j ++ x) d ∙ ap (λ (x : ℕ). sends (k .l) j ++ drop x out) count in
+        (rw (a, here, b) (ap (λ (x : ℕ). gives (x ∷ [])) count), rw (a, here, b) e)
 
     pub send-4 : length out < m → Answer s j out (refusal 4) out
     unfolding periodBy

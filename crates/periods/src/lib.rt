@@ -104,6 +104,10 @@ fn send(list: &[u8], ms: u16, j: usize, out: &mut [u16]) -> Sent
     if periods_of(ms) <= j {
         return Sent::Refused(Refusal::NoSuchPeriod);
     }
+    if 64 <= out.len() {
+        let all = period_words(list, ms, j, &mut out[..64]);
+        return Sent::Words(all);
+    }
     let mut sent = [0u16; 64];
     let k = period_words(list, ms, j, &mut sent);
     if out.len() < k {
