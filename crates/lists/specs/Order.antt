@@ -54,6 +54,7 @@ abbrev pub wordsDue : Header → List Cycle → List ℕ → ℕ → Due
 wordsDue h cs ws zero = afterWords (length cs) h cs ws
 wordsDue h cs ws (suc k) = want (word h cs ws k)
 
+-- "6: number outside its stated range"
 abbrev pub range : ℕ → ℕ → ℕ → Check
 range lo hi v = unless 6 (leb lo v && leb v hi)
 

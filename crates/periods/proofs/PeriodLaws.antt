@@ -320,7 +320,7 @@ module _ (s : List ℕ) (ms j : ℕ) (out : List ℕ) (k : IsList s ms) where
     pub send-straight : 64 ≤ length out → sent₀ ≡ take 64 out → Answer s j out (gives (m ∷ [])) (sent ++ drop 64 out)
     unfolding periodBy
     send-straight l q =
-        let a : accepted s ≡ yes (k .l) [] = is-read s ms k in
+        let a : accepted s ≡ took (k .l) [] = is-read s ms k in
         let f : length (sends (k .l) j) ≤ 64 = k .obeys .frames j (omega (arith, ap periodsOf (k .same))) in
         let b : leb (length (sends (k .l) j)) (length out) ≡ true = le-leb (length (sends (k .l) j)) (length out) (omega arith) in
         let n : length (take 64 out) ≡ 64 = length-take-le 64 out l in
