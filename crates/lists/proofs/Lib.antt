@@ -15,3 +15,4 @@ pub mod ClashLaws
 pub mod Acceptance
 pub mod PlainLaws
 pub mod OrderLaws
+pub mod Apart

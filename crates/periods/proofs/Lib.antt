@@ -2,3 +2,4 @@ pub mod CopyLaws
 pub mod SubcycleLaws
 pub mod PeriodLaws
 pub mod OnceLaws
+pub mod Apart
