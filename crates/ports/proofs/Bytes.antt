@@ -6,7 +6,7 @@ use Prim.Native.Nat.{ℕ, _+_, _-_, _≤_, _<_}
 use native.Mathlib.Omega.{arith}
 use borrow.Rule.Slice.PartMut.{putMid}
 use mathlib.Core.Bool.{not, false}
-use lib.ListN.{length, length-take, length-append, getD, take, drop, length-drop, drop-of-length-le, List·getD-append}
+use lib.ListN.{length, length-append, getD, take, drop, length-drop, drop-of-length-le, List·getD-append}
 use lib.Seq.{take-all, take-length, take-at, drop-at, drop-drop, length-take-le, getD-take, getD-drop, getD-append-add}
 use Rattle.frames.specs.Rows.{dataBytes}
 use Rattle.port_table.specs.declared.Seen.{Seen}
@@ -44,9 +44,6 @@ put-is store new v o h e =
 -- a port that was found lies within a store that is long enough
 pub port-within : (s : Seen) (a : ℕ) → Walked s a → not (s .good) ≡ false → s .place .at < s .count → (room : ℕ) → s .bytes ≤ room → (n : ℕ) → n ≡ dataBytes (s .place .«f_code») → s .place .offset + n ≤ room
 port-within s a w g h room k n e = omega (arith, found-within s a w g h)
-
-pub room-for : (l : List ℕ) (o n room : ℕ) → o + n ≤ room → o + length (take n l) ≤ room
-room-for l o n room h = omega (arith, length-take n l)
 
 pub place-small : (s : Seen) (a : ℕ) → Walked s a → not (s .good) ≡ false → s .place .at < s .count → (n : ℕ) → n ≡ dataBytes (s .place .«f_code») → s .place .offset + n ≤ 8192
 place-small s a (ps, e) g h n k =
