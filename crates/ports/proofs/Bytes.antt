@@ -23,12 +23,6 @@ front src out = take (length src) src ++ drop (length src) out
 pub front-is : (k n : ℕ) (l out : List ℕ) → length (take k l) ≡ n → k ≡ n → front (take k l) out ≡ take n l ++ drop n out
 front-is k n l out e h = ap₂ _++_ (take-length (take k l) ∙ ap (λ (i : ℕ). take i l) h) (ap (λ (i : ℕ). drop i out) e)
 
-pub length-part : (at size : ℕ) (l : List ℕ) → at + size ≤ length l → length (take (at + size - at) (drop at l)) ≡ size
-length-part at size l h =
-    let d : length (drop at l) ≡ length l - at = length-drop at l in
-    let e : length (take (at + size - at) (drop at l)) ≡ at + size - at = length-take-le (at + size - at) (drop at l) (omega arith) in
-    omega arith
-
 -- what a copy to the part of the store from a place on leaves, with `v` that part afterwards
 pub put-is : (store new v : List ℕ) (o : ℕ) → o + length new ≤ length store → v ≡ front new (take (length store - o) (drop o store)) → putMid o (length store - o) store v ≡ replaced o new store
 unfolding replaced
