@@ -6,7 +6,7 @@ use Prim.Native.Nat.{ℕ, _+_, _-_, _≤_, _<_}
 use native.Mathlib.Omega.{arith}
 use borrow.Rule.Slice.PartMut.{putMid}
 use mathlib.Core.Bool.{not, false}
-use lib.ListN.{length, length-take, length-append, getD, take, drop, length-drop, drop-of-length-le, List·getD-append}
+use lib.ListN.{length, length-append, getD, take, drop, length-drop, drop-of-length-le, List·getD-append}
 use lib.Seq.{take-all, take-length, take-at, drop-at, drop-drop, length-take-le, getD-take, getD-drop, getD-append-add}
 use Rattle.frames.specs.Rows.{dataBytes}
 use Rattle.port_table.specs.declared.Seen.{Seen}
@@ -23,12 +23,6 @@ front src out = take (length src) src ++ drop (length src) out
 pub front-is : (k n : ℕ) (l out : List ℕ) → length (take k l) ≡ n → k ≡ n → front (take k l) out ≡ take n l ++ drop n out
 front-is k n l out e h = ap₂ _++_ (take-length (take k l) ∙ ap (λ (i : ℕ). take i l) h) (ap (λ (i : ℕ). drop i out) e)
 
-pub length-part : (at size : ℕ) (l : List ℕ) → at + size ≤ length l → length (take (at + size - at) (drop at l)) ≡ size
-length-part at size l h =
-    let d : length (drop at l) ≡ length l - at = length-drop at l in
-    let e : length (take (at + size - at) (drop at l)) ≡ at + size - at = length-take-le (at + size - at) (drop at l) (omega arith) in
-    omega arith
-
 -- what a copy to the part of the store from a place on leaves, with `v` that part afterwards
 pub put-is : (store new v : List ℕ) (o : ℕ) → o + length new ≤ length store → v ≡ front new (take (length store - o) (drop o store)) → putMid o (length store - o) store v ≡ replaced o new store
 unfolding replaced
@@ -44,9 +38,6 @@ put-is store new v o h e =
 -- a port that was found lies within a store that is long enough
 pub port-within : (s : Seen) (a : ℕ) → Walked s a → not (s .good) ≡ false → s .place .at < s .count → (room : ℕ) → s .bytes ≤ room → (n : ℕ) → n ≡ dataBytes (s .place .«f_code») → s .place .offset + n ≤ room
 port-within s a w g h room k n e = omega (arith, found-within s a w g h)
-
-pub room-for : (l : List ℕ) (o n room : ℕ) → o + n ≤ room → o + length (take n l) ≤ room
-room-for l o n room h = omega (arith, length-take n l)
 
 pub place-small : (s : Seen) (a : ℕ) → Walked s a → not (s .good) ≡ false → s .place .at < s .count → (n : ℕ) → n ≡ dataBytes (s .place .«f_code») → s .place .offset + n ≤ 8192
 place-small s a (ps, e) g h n k =

@@ -31,7 +31,8 @@ use Rattle.ports.specs.Reading.{readRefusal, read, readOut, readAge}
 use Rattle.ports.specs.Filling.{fillRefusal, fill, fillStore}
 use Rattle.ports.specs.Ticking.{tickRefusal, tick, tickAges}
 use Rattle.ports.specs.Inside.{Arrived, Answered, HasRead, Filled, Ticked, Showed, agedDown}
-use Rattle.ports.proofs.Bytes.{front, front-is, length-part}
+use Rattle.frames.proofs.Turns.{length-part}
+use Rattle.ports.proofs.Bytes.{front, front-is}
 use Rattle.ports.proofs.Marks.{aged-down}
 use Rattle.ports.proofs.Frames.{frameCheck, outCheck, read-gives, read-refuses, write-gives, write-refuses}
 

@@ -6,8 +6,9 @@ use native.Mathlib.Omega.{arith}
 use Rattle.frames.specs.Rows.{dataBytes}
 use Rattle.frames.specs.Words.{address}
 use Rattle.ports.proofs.Frames.{read-bytes, told-bytes, told-refused}
-use Rattle.ports.proofs.Bytes.{port-within, room-for}
+use Rattle.ports.proofs.Bytes.{port-within}
 use native.Mathlib.Nat.{le-trans, le-of-eq}
+use lib.ListN.{length-take}
 use lib.Seq.{length-take-le}
 use borrow.Author.Needs.{needs}
 use Rattle.ports.proofs.Order.{arrive-13, arrive-store, arrive-ages, arrive-14, arrive-15, arrive-16, arrive-17, arrive-done, arrive-frame, few}
@@ -85,7 +86,7 @@ put-requires c κs =
     let k2 : tie.Else2 = k3 .before .before in
     let k1 : tie.Else1 = k2 .before .before in
     let s : tie.Start = k1 .before .before .before .before in
-    room-for _ _ _ _ (port-within (s .args .seen) (address (s .args .word)) (s .pre) (k1 .if1 .left) (k5 .if5 .left) _ (k2 .if2 .left) _ (bytes-read got .0 ∙ ap dataBytes (sym (k6 .if6 .left))))
+    simp length-take (omega (arith, port-within (s .args .seen) (address (s .args .word)) (s .pre) (k1 .if1 .left) (k5 .if5 .left) _ (k2 .if2 .left) _ (bytes-read got .0 ∙ ap dataBytes (sym (k6 .if6 .left)))))
 
 mul-ages : tie.Need-mul-ages
 mul-ages c =
