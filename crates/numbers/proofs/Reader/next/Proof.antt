@@ -1,4 +1,4 @@
--- `numbers::Reader::next` meets its contract: a walk of its MIR, by hand. The struct is taken apart, and `number_at` is called on the slice and the number. All that the proof knows of `number_at` is that it meets its contract.
+-- `Reader::next` meets its promise: a walk of its MIR, by hand. The struct is taken apart, and `number_at` is called on the slice and the number. All that the proof knows of `number_at` is that it meets its promise.
 -- The struct is Copy: what it owns is had twice, one copy is kept whole for the exit, and of the other what src owns goes to the callee, beside the lifetime's token, which comes back.
 -- Assumes nothing.
 use mathlib.Core.Path.{_≡_, refl}
