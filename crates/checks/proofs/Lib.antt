@@ -4,5 +4,5 @@ pub mod Parity
 pub mod Tests
 pub mod Distance
 pub mod Shifts
-pub mod Folded
+pub mod Folds
 pub mod Runs

@@ -3,16 +3,16 @@
 use mathlib.Core.Path.{_≡_, refl, sym, ap, ap₂, _∙_, subst}
 use mathlib.Core.Bool.{Bool, true, false, not}
 use mathlib.Core.List.{List, [], _∷_, _++_, append-assoc, append-nil}
-use Prim.Native.Nat.{ℕ, zero, suc, _+_, _*_, _/_, _%_, _^_, _≤_, _<_}
-use native.Mathlib.Nat.{add-suc, zero-add, suc-add, zero-mul, add-assoc, mul-assoc, add-mul, pow-succ', lt-of-lt-of-le}
+use Prim.Native.Nat.{ℕ, zero, suc, _+_, _-_, _*_, _/_, _%_, _^_, _≤_, _<_}
+use native.Mathlib.Nat.{add-suc, zero-add, suc-add, zero-mul, add-assoc, mul-assoc, add-mul, pow-succ'}
 use native.Mathlib.Numerals.{add-one}
 use native.Mathlib.Omega.{arith}
 use lib.Arith.{mod-mul, digits-lt}
-use lib.Pow.{pow-pos, pow-mono, pow-add, high, low, field, mod-mod-pow}
+use lib.Pow.{pow-pos, pow-add, high, low, field, mod-mod-pow}
 use lib.Bits.{bitXor, xor-shr, xor-mod}
 use lib.Dec.{eqb}
-use lib.ListN.{length, getD, take, length-append}
-use lib.Seq.{take-suc, length-take-le}
+use lib.ListN.{length, getD, take, drop, length-append, length-drop, take-append-drop}
+use lib.Seq.{take-suc, take-all, length-take-le}
 use Rattle.checks.specs.Bits.{bits, bitsOf, one, number}
 use Rattle.checks.specs.Check.{plus, add}
 
@@ -70,7 +70,7 @@ bits-mod (suc j) i n =
     ∙ ap (λ (x : ℕ). eqb x 1) (mod-mod-pow (n / 2 ^ j) i 1))
     (ap (λ (x : ℕ). bits j (n % 2 ^ x)) (add-suc i j ∙ sym (suc-add i j)) ∙ bits-mod j (suc i) n)
 
-one-lt : (b : Bool) → one b < 2
+pub one-lt : (b : Bool) → one b < 2
 one-lt true = omega arith
 one-lt false = omega arith
 
@@ -134,7 +134,44 @@ number-next bytes i h g =
     ∙ number-append (bitsOf (take i bytes)) (bits 8 (getD bytes i 0))
     ∙ ap₂ (λ (k x : ℕ). number (bitsOf (take i bytes)) * 2 ^ k + x) (length-bits 8 (getD bytes i 0)) (number-byte (getD bytes i 0) g))
 
-pub number-below : (bytes : List ℕ) (i : ℕ) → i ≤ length bytes → i < 8 → number (bitsOf (take i bytes)) < 2 ^ 56
-number-below bytes i h g =
-    lt-of-lt-of-le (number-lt (bitsOf (take i bytes)))
-    (pow-mono {j = 56} (let e : length (bitsOf (take i bytes)) ≡ 8 * length (take i bytes) = length-bitsOf (take i bytes) in let l : length (take i bytes) ≡ i = length-take-le i bytes h in omega arith))
+-- the number of a byte of a run, and that it is one
+abbrev pub IsByte : ℕ → List ℕ → ℕ → Type 0
+IsByte n bytes i = (n ≡ getD bytes i 0) × (n < 256)
+
+number-more : (bytes : List ℕ) (i n b : ℕ) → i < length bytes → n ≡ number (bitsOf (take i bytes)) → IsByte b bytes i → n * 256 + b ≡ number (bitsOf (take (i + 1) bytes))
+number-more bytes i n b h e w = rw (e, w .0) (number-next bytes i h (rw (sym (w .0)) (w .1)))
+
+-- two bytes
+number-pair : (bytes : List ℕ) (a b : ℕ) → 2 ≤ length bytes → IsByte a bytes 0 → IsByte b bytes 1 → a * 256 + b ≡ number (bitsOf (take 2 bytes))
+number-pair bytes a b h wa wb =
+    number-more bytes 1 a b (omega arith) (sym (zero-add a) ∙ number-more bytes 0 0 a (omega arith) refl wa) wb
+
+pub number-two : (bytes : List ℕ) (a b : ℕ) → length bytes ≡ 2 → IsByte a bytes 0 → IsByte b bytes 1 → a * 256 + b ≡ number (bitsOf bytes)
+number-two bytes a b h wa wb = number-pair bytes a b (omega arith) wa wb ∙ ap (λ (l : List ℕ). number (bitsOf l)) (take-all 2 bytes (omega arith))
+
+-- four bytes
+pub number-four : (bytes : List ℕ) (a b c d : ℕ) → length bytes ≡ 4 → IsByte a bytes 0 → IsByte b bytes 1 → IsByte c bytes 2 → IsByte d bytes 3
+    → ((a * 256 + b) * 256 + c) * 256 + d ≡ number (bitsOf bytes)
+number-four bytes a b c d h wa wb wc wd =
+    number-more bytes 3 ((a * 256 + b) * 256 + c) d (omega arith) (number-more bytes 2 (a * 256 + b) c (omega arith) (number-pair bytes a b (omega arith) wa wb) wc) wd
+    ∙ ap (λ (l : List ℕ). number (bitsOf l)) (take-all 4 bytes (omega arith))
+
+-- ---- bytes in two halves
+
+pub first-half : (k : ℕ) (bytes : List ℕ) → length bytes ≡ 2 * k → length (take k bytes) ≡ k
+first-half k bytes h = length-take-le k bytes (omega arith)
+
+second-half : (k : ℕ) (bytes : List ℕ) → take (length bytes - k) (drop k bytes) ≡ drop k bytes
+second-half k bytes = take-all (length bytes - k) (drop k bytes) (let e : length (drop k bytes) ≡ length bytes - k = length-drop k bytes in omega arith)
+
+length-second : (k : ℕ) (bytes : List ℕ) → length bytes ≡ 2 * k → length (drop k bytes) ≡ k
+length-second k bytes h = length-drop k bytes ∙ omega arith
+
+pub number-halves : (k high low : ℕ) (bytes : List ℕ) → length bytes ≡ 2 * k → high ≡ number (bitsOf (take k bytes)) → low ≡ number (bitsOf (take (length bytes - k) (drop k bytes)))
+    → high * 2 ^ (8 * k) + low ≡ number (bitsOf bytes)
+number-halves k high low bytes h eh el =
+    rw (eh, el, second-half k bytes)
+    (ap (λ (n : ℕ). number (bitsOf (take k bytes)) * 2 ^ n + number (bitsOf (drop k bytes)))
+    (sym (length-bitsOf (drop k bytes) ∙ ap (λ (n : ℕ). 8 * n) (length-second k bytes h)))
+    ∙ sym (number-append (bitsOf (take k bytes)) (bitsOf (drop k bytes)))
+    ∙ ap number (sym (bitsOf-append (take k bytes) (drop k bytes)) ∙ ap bitsOf (take-append-drop k bytes)))

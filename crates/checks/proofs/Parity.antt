@@ -25,4 +25,4 @@ odd-add (conss {a} {b} {p} {q} s) = ap (plus (plus a b)) (odd-add s) ∙ middle-
 
 pub length-plain : (m : List Bool) → length (plain m) ≡ 8
 unfolding plain
-length-plain m = length-append (remainder m) (odd (m ++ remainder m) ∷ []) ∙ ap (λ (k : ℕ). k + 1) (length-remainder m)
+length-plain m = length-append (remainder m) (_ ∷ []) ∙ ap (λ (k : ℕ). k + 1) (length-remainder m)

@@ -1,21 +1,19 @@
--- The remainder and the parity of a run of bytes, eight bytes more at a time, and the check sequence made of them.
+-- The check bits of a run of bytes, byte by byte, and the check sequence made of them.
 -- Assumes nothing.
 use mathlib.Core.Path.{_≡_, refl, sym, ap, ap₂, _∙_, subst}
 use mathlib.Core.Bool.{Bool, true, false, not}
 use mathlib.Core.List.{List, [], _∷_, _++_, map, append-assoc}
-use Prim.Native.Nat.{ℕ, zero, suc, _+_, _-_, _*_, _%_, _^_, _≤_, _<_}
-use native.Mathlib.Nat.{lt-of-lt-of-le, pow-succ', mul-one}
+use Prim.Native.Nat.{ℕ, zero, suc, _+_, _-_, _*_, _/_, _%_, _^_, _≤_, _<_}
+use native.Mathlib.Nat.{pow-succ'}
 use native.Mathlib.Omega.{arith}
 use lib.Bits.{bitXor, xor-lt}
-use lib.Pow.{pow-mono}
-use lib.ListN.{length, drop, replicate, length-append, length-replicate}
-use lib.Seq.{drop-at}
+use lib.ListN.{length, replicate, length-append, length-replicate}
 use Rattle.checks.specs.Bits.{bits, bitsOf, one, number}
 use Rattle.checks.specs.Check.{plus, add, divided, remainder, odd, plain, checkBits, checkOf}
-use Rattle.checks.proofs.Polynomials.{Same, same, add-append, length-add, divided-zeros, divided-more, mix, length-remainder}
-use Rattle.checks.proofs.Numbers.{length-bits, length-bitsOf, bits-number, bits-xor, number-lt, number-append, bitsOf-append}
+use Rattle.checks.proofs.Polynomials.{same, plus-false, add-append, add-comm, zeros-add, length-add, divided-zeros, divided-more, mix, length-remainder}
+use Rattle.checks.proofs.Numbers.{length-bits, length-bitsOf, bits-number, bits-xor, one-lt, number-lt, number-append, number-byte, byte-number, number-byte-lt, bitsOf-snoc}
 use Rattle.checks.proofs.Parity.{odd-append, odd-add, odd-zeros, length-plain}
-use Rattle.checks.proofs.Shifts.{bits-small, up-bits}
+use Rattle.checks.proofs.Shifts.{bits-small}
 
 -- ---- the remainder of a longer block
 
@@ -56,67 +54,107 @@ remainder-more m b k e =
 bits-64 : (i : ℕ) (l : List Bool) → i + length l ≡ 64 → bits 64 (number l) ≡ replicate i false ++ l
 bits-64 i l e = ap (λ (k : ℕ). bits k (number l)) (sym e) ∙ bits-small i (length l) (number l) (number-lt l) ∙ ap (λ (x : List Bool). replicate i false ++ x) (bits-number l)
 
-pub number-small : (bytes : List ℕ) → length bytes ≤ 8 → number (bitsOf bytes) < 2 ^ 64
-number-small bytes h = lt-of-lt-of-le (number-lt (bitsOf bytes)) (pow-mono {j = 64} (let e : length (bitsOf bytes) ≡ 8 * length bytes = length-bitsOf bytes in omega arith))
+-- ---- the check bits, byte by byte
 
--- ---- the bytes passed
+-- zeros in front change nothing
+plain-zeros : (k : ℕ) (m : List Bool) → plain (replicate k false ++ m) ≡ plain m
+unfolding plain
+plain-zeros k m =
+    ap₂ (λ (l : List Bool) (b : Bool). l ++ (b ∷ [])) (remainder-zeros k m)
+    (ap (λ (l : List Bool). odd ((replicate k false ++ m) ++ l)) (remainder-zeros k m) ∙ ap odd (append-assoc (replicate k false) m (remainder m)) ∙ odd-zeros k (m ++ remainder m))
 
--- `sum` has the parity of the bytes passed, and `rest` is their remainder
-pub record Passed (bytes : List ℕ) (sum rest : ℕ) : Type 0 where
-  pub remains : rest ≡ number (remainder (bitsOf bytes))
-  pub ones : odd (bits 64 sum) ≡ odd (bitsOf bytes)
-  pub small : sum < 2 ^ 64
-
-pub passed-none : Passed [] 0 0
-unfolding remainder bits
-passed-none = record { remains = refl; ones = refl; small = omega arith }
-
-pub passed-first : (bytes : List ℕ) (sum rest : ℕ) → length bytes ≤ 8 → sum ≡ number (bitsOf bytes) → rest ≡ number (remainder (bits 64 sum)) → Passed bytes sum rest
-passed-first bytes sum rest h s r =
+pub plain-first : (bytes : List ℕ) (n p : ℕ) → length bytes ≤ 8 → n ≡ number (bitsOf bytes) → p ≡ number (plain (bits 64 n)) → p ≡ number (plain (bitsOf bytes))
+plain-first bytes n p h e r =
     let l : length (bitsOf bytes) ≡ 8 * length bytes = length-bitsOf bytes in
-    let w : bits 64 sum ≡ replicate (64 - length (bitsOf bytes)) false ++ bitsOf bytes =
-    ap (bits 64) s ∙ bits-64 (64 - length (bitsOf bytes)) (bitsOf bytes) (omega arith) in
-    record {
-      remains = r ∙ ap (λ (x : List Bool). number (remainder x)) w ∙ ap number (remainder-zeros (64 - length (bitsOf bytes)) (bitsOf bytes));
-      ones = ap odd w ∙ odd-zeros (64 - length (bitsOf bytes)) (bitsOf bytes);
-      small = rw s (number-small bytes h);
-    }
+    r
+    ∙ ap (λ (x : ℕ). number (plain (bits 64 x))) e
+    ∙ ap (λ (x : List Bool). number (plain x)) (bits-64 (64 - length (bitsOf bytes)) (bitsOf bytes) (omega arith))
+    ∙ ap number (plain-zeros (64 - length (bitsOf bytes)) (bitsOf bytes))
 
--- the seven bits of the remainder
-rest-bits : (m : List Bool) → bits 7 (number (remainder m)) ≡ remainder m
-rest-bits m = ap (λ (k : ℕ). bits k (number (remainder m))) (sym (length-remainder m)) ∙ bits-number (remainder m)
+-- the check bits of a longer block: the remainder so far joins the next bits at their front, the parity so far joins theirs
+plain-more : (m b : List Bool) (k : ℕ) → length b ≡ 7 + k
+    → plain (m ++ b) ≡ add (plain (add (remainder m ++ replicate k false) b)) (replicate 7 false ++ (odd (m ++ remainder m) ∷ []))
+unfolding plain
+plain-more m b k e =
+    let front : List Bool = remainder m ++ replicate k false in
+    let x : List Bool = add front b in
+    let long : length front ≡ 7 + k = length-append (remainder m) (replicate k false) ∙ ap₂ (λ (i j : ℕ). i + j) (length-remainder m) (length-replicate k false) in
+    let r : remainder (m ++ b) ≡ remainder x = remainder-more m b k e in
+    let o : odd ((m ++ b) ++ remainder (m ++ b)) ≡ plus (odd (x ++ remainder x)) (odd (m ++ remainder m)) =
+    odd-append (m ++ b) (remainder (m ++ b)) ∙ ap₂ plus (odd-append m b) (ap odd r)
+    ∙ parities (odd m) (odd b) (odd (remainder x)) (odd (remainder m))
+    ∙ sym (ap₂ plus
+    (odd-append x (remainder x)
+    ∙ ap (λ (c : Bool). plus c (odd (remainder x)))
+    (odd-add (same front b (long ∙ sym e)) ∙ ap (λ (c : Bool). plus c (odd b)) (odd-append (remainder m) (replicate k false) ∙ ap (plus (odd (remainder m))) (no-ones k) ∙ plus-false (odd (remainder m)))))
+    (odd-append m (remainder m))) in
+    ap₂ (λ (l : List Bool) (c : Bool). l ++ (c ∷ [])) (r ∙ sym (add-comm (same (remainder x) (replicate 7 false) (length-remainder x)) ∙ zeros-add 7 (remainder x) (sym (length-remainder x)))) o
+    ∙ sym (add-append (odd (x ++ remainder x) ∷ []) (odd (m ++ remainder m) ∷ []) (same (remainder x) (replicate 7 false) (length-remainder x)))
+  where
+    parities : (a b c d : Bool) → plus (plus a b) c ≡ plus (plus (plus d b) c) (plus a d)
+    parities true b c true = sym (plus-false (plus (not b) c))
+    parities false b c false = sym (plus-false (plus b c))
+    parities true true true false = refl
+    parities true true false false = refl
+    parities true false true false = refl
+    parities true false false false = refl
+    parities false true true true = refl
+    parities false true false true = refl
+    parities false false true true = refl
+    parities false false false true = refl
 
-pub rest-lt : (m : List Bool) → number (remainder m) < 128
+    no-ones : (k : ℕ) → odd (replicate k false) ≡ false
+    no-ones zero = refl
+    no-ones (suc k) = no-ones k
+
+rest-lt : (m : List Bool) → number (remainder m) < 128
 rest-lt m = subst (λ (k : ℕ). number (remainder m) < 2 ^ k) (length-remainder m) (number-lt (remainder m))
 
--- shifted to the front of 64 bits
-rest-up : (m : List Bool) → bits 64 ((number (remainder m) * 2 ^ 57) % 2 ^ 64) ≡ remainder m ++ replicate 57 false
-rest-up m =
-    up-bits 7 57 (number (remainder m)) refl
-    ∙ ap (λ (l : List Bool). drop 57 l ++ replicate 57 false) (bits-small 57 7 (number (remainder m)) (rest-lt m))
-    ∙ ap (λ (l : List Bool). l ++ replicate 57 false) (drop-at (replicate 57 false) (bits 7 (number (remainder m))) 57 refl ∙ rest-bits m)
+last-bit : (b : Bool) → number (b ∷ []) ≡ one b
+last-bit true = refl
+last-bit false = refl
 
-pub passed-more : (bytes chunk : List ℕ) (sum rest next rest' : ℕ) → Passed bytes sum rest → length chunk ≡ 8 → next ≡ number (bitsOf chunk)
-    → rest' ≡ number (remainder (bits 64 (bitXor ((rest * 2 ^ 57) % 2 ^ 64) next))) → Passed (bytes ++ chunk) (bitXor sum next) rest'
-passed-more bytes chunk sum rest next rest' p h n r =
+-- the check bits are the remainder and the parity
+parts : (m : List Bool) → number (plain m) ≡ number (remainder m) * 2 + one (odd (m ++ remainder m))
+unfolding plain
+parts m =
+    number-append (remainder m) (odd (m ++ remainder m) ∷ [])
+    ∙ ap (λ (x : ℕ). number (remainder m) * 2 + x) (last-bit (odd (m ++ remainder m)))
+
+number-add : (a b : List Bool) → length a ≡ 8 → length b ≡ 8 → bitXor (number a) (number b) ≡ number (add a b)
+number-add a b ha hb =
+    sym (number-byte (bitXor (number a) (number b)) (xor-lt 8 (number a) (number b) (number-byte-lt a ha) (number-byte-lt b hb)))
+    ∙ ap number (bits-xor 8 (number a) (number b) ∙ ap₂ add (byte-number a ha) (byte-number b hb))
+
+lone : (b : Bool) → one b ≡ number (replicate 7 false ++ (b ∷ []))
+lone true = refl
+lone false = refl
+
+-- the remainder in the place of the check bits, the parity cut off
+rest-byte : (m : List Bool) → bits 8 (number (remainder m) * 2) ≡ remainder m ++ (false ∷ [])
+rest-byte m =
+    ap (bits 8) (sym (number-append (remainder m) (false ∷ []) ∙ native.Mathlib.Nat.add-zero (number (remainder m) * 2)))
+    ∙ byte-number (remainder m ++ (false ∷ [])) (length-append (remainder m) (false ∷ []) ∙ ap (λ (k : ℕ). k + 1) (length-remainder m))
+
+pub plain-next : (bytes : List ℕ) (byte p r : ℕ) → byte < 256 → p ≡ number (plain (bitsOf bytes)) → r ≡ number (plain (bits 64 (bitXor (p - p % 2) byte)))
+    → bitXor r (p % 2) ≡ number (plain (bitsOf (bytes ++ (byte ∷ []))))
+plain-next bytes byte p r h e g =
     let m : List Bool = bitsOf bytes in
-    let b : List Bool = bitsOf chunk in
-    let l : length b ≡ 8 * length chunk = length-bitsOf chunk in
-    let w : bits 64 next ≡ b = ap (bits 64) n ∙ bits-64 0 b (omega arith) in
-    let u : bits 64 ((rest * 2 ^ 57) % 2 ^ 64) ≡ remainder m ++ replicate 57 false = ap (λ (x : ℕ). bits 64 ((x * 2 ^ 57) % 2 ^ 64)) (p .remains) ∙ rest-up m in
-    record {
-      remains =
-          r
-          ∙ ap (λ (x : List Bool). number (remainder x)) (bits-xor 64 ((rest * 2 ^ 57) % 2 ^ 64) next ∙ ap₂ add u w)
-          ∙ ap number (sym (remainder-more m b 57 (omega arith)))
-          ∙ ap (λ (x : List Bool). number (remainder x)) (sym (bitsOf-append bytes chunk));
-      ones =
-          ap odd (bits-xor 64 sum next)
-          ∙ odd-add (same (bits 64 sum) (bits 64 next) (length-bits 64 sum ∙ sym (length-bits 64 next)))
-          ∙ ap₂ plus (p .ones) (ap odd w)
-          ∙ sym (ap odd (bitsOf-append bytes chunk) ∙ odd-append m b);
-      small = xor-lt 64 sum next (p .small) (rw n (number-small chunk (omega arith)));
-    }
+    let b : List Bool = bits 8 byte in
+    let o : Bool = odd (m ++ remainder m) in
+    let split : p ≡ number (remainder m) * 2 + one o = e ∙ parts m in
+    let bit : one o < 2 = one-lt o in
+    let rest : p - p % 2 ≡ number (remainder m) * 2 = omega arith in
+    let last : p % 2 ≡ one o = omega arith in
+    let low : number (remainder m) < 128 = rest-lt m in
+    let x : List Bool = add (remainder m ++ (false ∷ [])) b in
+    let joined : bits 64 (bitXor (p - p % 2) byte) ≡ replicate 56 false ++ x =
+    bits-small 56 8 (bitXor (p - p % 2) byte) (xor-lt 8 (p - p % 2) byte (omega arith) h)
+    ∙ ap (λ (l : List Bool). replicate 56 false ++ l) (bits-xor 8 (p - p % 2) byte ∙ ap (λ (l : List Bool). add l b) (ap (bits 8) rest ∙ rest-byte m)) in
+    ap₂ bitXor (g ∙ ap number (ap plain joined ∙ plain-zeros 56 x)) (last ∙ lone o)
+    ∙ number-add (plain x) (replicate 7 false ++ (o ∷ [])) (length-plain x) refl
+    ∙ ap number (sym (plain-more m b 1 (length-bits 8 byte)))
+    ∙ ap (λ (l : List Bool). number (plain l)) (sym (bitsOf-snoc bytes byte))
 
 -- ---- the check sequence
 
@@ -133,29 +171,13 @@ number-not (b ∷ l) =
     first true ih p k = omega arith
     first false ih p k = let q : 2 ^ length (map not l) ≡ 2 ^ length l = ap (λ (x : ℕ). 2 ^ x) k in omega arith
 
--- the parity bit closes the check bits
-closed : (bytes : List ℕ) (sum rest parity : ℕ) → Passed bytes sum rest → parity ≡ one (odd (bits 64 sum ++ bits 8 rest)) → rest * 2 + parity ≡ number (plain (bitsOf bytes))
-unfolding plain
-closed bytes sum rest parity p e =
-    let m : List Bool = bitsOf bytes in
-    let r : bits 8 rest ≡ false ∷ remainder m = ap (bits 8) (p .remains) ∙ bits-small 1 7 (number (remainder m)) (rest-lt m) ∙ ap (λ (x : List Bool). false ∷ x) (rest-bits m) in
-    let o : odd (bits 64 sum ++ bits 8 rest) ≡ odd (m ++ remainder m) =
-    odd-append (bits 64 sum) (bits 8 rest) ∙ ap₂ plus (p .ones) (ap odd r) ∙ sym (odd-append m (remainder m)) in
-    sym (number-append (remainder m) (odd (m ++ remainder m) ∷ [])
-    ∙ ap₂ (λ (x y : ℕ). x * 2 + y) (sym (p .remains)) (last (odd (m ++ remainder m)) ∙ sym (e ∙ ap one o)))
-  where
-    last : (b : Bool) → one b * 2 ^ 0 + 0 ≡ one b
-    last true = refl
-    last false = refl
-
-pub check-closed : (bytes : List ℕ) (sum rest parity : ℕ) → Passed bytes sum rest → parity ≡ one (odd (bits 64 sum ++ bits 8 rest)) → 255 - (rest * 2 + parity) ≡ checkOf bytes
+-- "all eight inverted"
+pub check-inverted : (bytes : List ℕ) (p : ℕ) → p ≡ number (plain (bitsOf bytes)) → 255 - p ≡ checkOf bytes
 unfolding checkOf checkBits
-check-closed bytes sum rest parity p e =
+check-inverted bytes p e =
     let n : number (map not (plain (bitsOf bytes))) + number (plain (bitsOf bytes)) + 1 ≡ 2 ^ length (plain (bitsOf bytes)) = number-not (plain (bitsOf bytes)) in
     let k : 2 ^ length (plain (bitsOf bytes)) ≡ 256 = ap (λ (x : ℕ). 2 ^ x) (length-plain (bitsOf bytes)) in
-    let c : rest * 2 + parity ≡ number (plain (bitsOf bytes)) = closed bytes sum rest parity p e in
     omega arith
 
-pub parity-lt : (b : Bool) → one b < 2
-parity-lt true = omega arith
-parity-lt false = omega arith
+pub plain-lt : (bytes : List ℕ) (p : ℕ) → p ≡ number (plain (bitsOf bytes)) → p < 256
+plain-lt bytes p e = rw e (number-byte-lt (plain (bitsOf bytes)) (length-plain (bitsOf bytes)))

@@ -1,87 +1,101 @@
 // The check sequence of a block (document 01, "Frames"; 001, 6.1.3).
 ghost use mathlib.Core.Path.{_≡_};
-ghost use mathlib.Core.List.{_++_};
-ghost use Prim.Native.Nat.{_≤_, _<_};
+ghost use Prim.Native.Nat.{_+_, _*_, _/_, _^_, _<_};
 ghost use lib.ListN.{length};
-ghost use Rattle.checks.specs.Bits.{bits, bitsOf, number, one};
-ghost use Rattle.checks.specs.Check.{remainder, odd, checkOf};
+ghost use Rattle.checks.specs.Bits.{bits, bitsOf, number};
+ghost use Rattle.checks.specs.Check.{plain, checkOf};
 
 fn wide(byte: u8) -> u64
-    ensures { λ r. ⌜ r ≡ byte ⌝ }
+    ensures { λ r. ⌜ (r ≡ byte) × (r < 256) ⌝ }
 {
     byte as u64
 }
 
-// The number whose bits are those of at most eight bytes, high bit first.
-fn number_of(bytes: &[u8]) -> u64
-    requires { ⌜ length (now bytes) ≤ 8 ⌝ }
-    ensures { λ r. ⌜ r ≡ number (bitsOf (now (bytes .entry))) ⌝ }
+fn two(bytes: &[u8]) -> u64
+    requires { ⌜ length (now bytes) ≡ 2 ⌝ }
+    ensures { λ r. ⌜ (r ≡ number (bitsOf (now (bytes .entry)))) × (r < 65536) ⌝ }
 {
-    let mut n: u64 = 0;
+    wide(bytes[0]) * 256 + wide(bytes[1])
+}
+
+fn four(bytes: &[u8]) -> u64
+    requires { ⌜ length (now bytes) ≡ 4 ⌝ }
+    ensures { λ r. ⌜ (r ≡ number (bitsOf (now (bytes .entry)))) × (r < 4294967296) ⌝ }
+{
+    let high = wide(bytes[0]) * 256 + wide(bytes[1]);
+    (high * 256 + wide(bytes[2])) * 256 + wide(bytes[3])
+}
+
+// Two halves of 64 bits brought down to 23 with the same check bits: x^32 and x^10 + x^3 + 1 leave one
+// remainder, x^23 and x^2 + x + 1 too, and the number of ones stays even or odd.
+fn folded(high: u64, low: u64) -> u64
+    requires { ⌜ (high < 4294967296) × (low < 4294967296) ⌝ }
+    ensures { λ r. ⌜ (r < 8388608) × (plain (bits 64 r) ≡ plain (bits 64 (high * 4294967296 + low))) ⌝ }
+{
+    let v = low ^ high ^ (high << 3) ^ (high << 10);
+    let top = v >> 23;
+    ((v << 41) >> 41) ^ top ^ (top << 1) ^ (top << 2)
+}
+
+// Eight bytes in a number, the lowest first: from which one on.
+fn from_byte(eight: u64, place: u64) -> u64
+    requires { ⌜ place < 8 ⌝ }
+    ensures { λ r. ⌜ r ≡ eight / 2 ^ (8 * place) ⌝ }
+{
+    eight >> (8 * place)
+}
+
+// What each three bits from x^8, x^11, x^14 and x^17 on leave: a byte for each of their eight values.
+const FROM_8: u64 = 0x29e277bc955ecb00;
+
+const FROM_11: u64 = 0x8a3924971daeb300;
+
+const FROM_14: u64 = 0xec0aeb0de107e600;
+
+const FROM_17: u64 = 0x4950786128311900;
+
+// The check bits, before they are inverted, of at most 23 bits. Times x^8 these reach x^30; x^20 and
+// x^8 + x^3 + x leave the same, and what stands below x^8 is check bits already.
+fn plain_of(v: u64) -> u64
+    requires { ⌜ v < 8388608 ⌝ }
+    ensures { λ r. ⌜ (r ≡ number (plain (bits 64 v))) × (r < 256) ⌝ }
+{
+    let high = v >> 12;
+    let y = (((v << 52) >> 44) ^ (high << 8)) ^ (high << 1) ^ (high << 3);
+    let first = from_byte(FROM_8, (y >> 8) % 8);
+    let second = from_byte(FROM_11, (y >> 11) % 8);
+    let third = from_byte(FROM_14, (y >> 14) % 8);
+    let fourth = from_byte(FROM_17, (y >> 17) % 8);
+    (y ^ first ^ second ^ third ^ fourth) % 256
+}
+
+// The check bits of a block of any length, byte by byte: the remainder so far joins the next byte,
+// the parity so far joins its parity.
+fn plain_by_bytes(block: &[u8]) -> u64
+    ensures { λ r. ⌜ (r ≡ number (plain (bitsOf (now (block .entry))))) × (r < 256) ⌝ }
+{
+    let mut plain: u64 = 0;
     let mut i = 0;
-    while i < bytes.len() {
-        n = n * 256 + wide(bytes[i]);
+    while i < block.len() {
+        let parity = plain % 2;
+        plain = plain_of((plain - parity) ^ wide(block[i])) ^ parity;
         i += 1;
     }
-    n
+    plain
 }
 
-// The remainder of 64 bits times x^7. The divisor divides x^56 + x^4 + 1, x^28 + x^2 + 1 and
-// x^14 + x + 1, so what stands at x^56 and above, x^28 and above, x^14 and above comes down by
-// shifts; the last bits come down as the remainders of x^10, x^8 and x^7.
-fn remainder_of(block: u64) -> u64
-    ensures { λ r. ⌜ r ≡ number (remainder (bits 64 block)) ⌝ }
-{
-    let high = block >> 49;
-    let v = ((block << 15) >> 8) ^ high ^ (high << 4);
-    let high = v >> 28;
-    let v = ((v << 36) >> 36) ^ high ^ (high << 2);
-    let high = v >> 14;
-    let v = ((v << 50) >> 50) ^ high ^ (high << 1);
-    let high = v >> 14;
-    let v = ((v << 50) >> 50) ^ high ^ (high << 1);
-    let high = v >> 10;
-    let v = ((v << 54) >> 54) ^ high ^ (high << 3) ^ (high << 4) ^ (high << 6);
-    let high = v >> 8;
-    let v = ((v << 56) >> 56) ^ high ^ (high << 1) ^ (high << 2) ^ (high << 3) ^ (high << 5);
-    let high = v >> 7;
-    ((v << 57) >> 57) ^ high ^ (high << 2) ^ (high << 5) ^ (high << 6)
-}
-
-// 1 where the number of ones in 64 bits and a remainder is odd. The remainder joins late: the
-// first three sums do not wait for it.
-fn parity_of(block: u64, rest: u64) -> u64
-    requires { ⌜ rest < 256 ⌝ }
-    ensures { λ r. ⌜ r ≡ one (odd (bits 64 block ++ bits 8 rest)) ⌝ }
-{
-    let x = block ^ (block >> 32);
-    let x = x ^ (x >> 16);
-    let x = x ^ (x >> 8);
-    let x = x ^ rest;
-    let x = x ^ (x >> 4);
-    let x = x ^ (x >> 2);
-    let x = x ^ (x >> 1);
-    (x << 63) >> 63
-}
-
-// The check sequence of a block of any length, eight bytes at a time; what the length leaves over
-// goes first, where zeros in front change nothing.
+// The check sequence of a block of any length. The blocks of a frame have two, four or eight bytes.
 pub fn check_of(block: &[u8]) -> u8
     ensures { λ r. ⌜ r ≡ checkOf (now (block .entry)) ⌝ }
 {
-    let first = block.len() % 8;
-    let mut sum: u64 = 0;
-    let mut rest: u64 = 0;
-    if 0 < first {
-        sum = number_of(&block[..first]);
-        rest = remainder_of(sum);
+    if block.len() == 2 {
+        return (255 - plain_of(two(block))) as u8;
     }
-    let mut at = first;
-    while at < block.len() {
-        let next = number_of(&block[at..at + 8]);
-        sum = sum ^ next;
-        rest = remainder_of((rest << 57) ^ next);
-        at += 8;
+    if block.len() == 8 {
+        return (255 - plain_of(folded(four(&block[..4]), four(&block[4..])))) as u8;
     }
-    (255 - (rest * 2 + parity_of(sum, rest))) as u8
+    if block.len() == 4 {
+        return (255 - plain_of(folded(0, four(block)))) as u8;
+    }
+    (255 - plain_by_bytes(block)) as u8
 }
