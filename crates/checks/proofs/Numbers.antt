@@ -146,8 +146,10 @@ number-pair : (bytes : List ℕ) (a b : ℕ) → 2 ≤ length bytes → IsByte a
 number-pair bytes a b h wa wb =
     number-more bytes 1 a b (omega arith) (sym (zero-add a) ∙ number-more bytes 0 0 a (omega arith) refl wa) wb
 
-pub number-two : (bytes : List ℕ) (a b : ℕ) → length bytes ≡ 2 → IsByte a bytes 0 → IsByte b bytes 1 → a * 256 + b ≡ number (bitsOf bytes)
-number-two bytes a b h wa wb = number-pair bytes a b (omega arith) wa wb ∙ ap (λ (l : List ℕ). number (bitsOf l)) (take-all 2 bytes (omega arith))
+pub number-word : (word : ℕ) → word < 65536 → word ≡ number (bitsOf (word / 256 ∷ word % 256 ∷ []))
+number-word word h =
+    let e : word ≡ word / 256 * 256 + word % 256 = omega arith in
+    e ∙ number-pair (word / 256 ∷ word % 256 ∷ []) (word / 256) (word % 256) (omega arith) (refl, omega arith) (refl, omega arith)
 
 -- four bytes
 pub number-four : (bytes : List ℕ) (a b c d : ℕ) → length bytes ≡ 4 → IsByte a bytes 0 → IsByte b bytes 1 → IsByte c bytes 2 → IsByte d bytes 3

@@ -1,6 +1,7 @@
 // The check sequence of a block (document 01, "Frames"; 001, 6.1.3).
 ghost use mathlib.Core.Path.{_≡_};
-ghost use Prim.Native.Nat.{_+_, _*_, _/_, _^_, _<_};
+ghost use mathlib.Core.List.{[], _∷_};
+ghost use Prim.Native.Nat.{_+_, _*_, _/_, _%_, _^_, _<_};
 ghost use lib.ListN.{length};
 ghost use Rattle.checks.specs.Bits.{bits, bitsOf, number};
 ghost use Rattle.checks.specs.Check.{plain, checkOf};
@@ -11,11 +12,10 @@ fn wide(byte: u8) -> u64
     byte as u64
 }
 
-fn two(bytes: &[u8]) -> u64
-    requires { ⌜ length (now bytes) ≡ 2 ⌝ }
-    ensures { λ r. ⌜ (r ≡ number (bitsOf (now (bytes .entry)))) × (r < 65536) ⌝ }
+fn word_of(high: u8, low: u8) -> u16
+    ensures { λ r. ⌜ (r / 256 ≡ high) × (r % 256 ≡ low) ⌝ }
 {
-    wide(bytes[0]) * 256 + wide(bytes[1])
+    (high as u16) * 256 + low as u16
 }
 
 fn four(bytes: &[u8]) -> u64
@@ -84,12 +84,19 @@ fn plain_by_bytes(block: &[u8]) -> u64
     plain
 }
 
+// The check sequence of a word, a block of two bytes.
+pub fn check_of_word(word: u16) -> u8
+    ensures { λ r. ⌜ r ≡ checkOf (word / 256 ∷ word % 256 ∷ []) ⌝ }
+{
+    (255 - plain_of(word as u64)) as u8
+}
+
 // The check sequence of a block of any length. The blocks of a frame have two, four or eight bytes.
 pub fn check_of(block: &[u8]) -> u8
     ensures { λ r. ⌜ r ≡ checkOf (now (block .entry)) ⌝ }
 {
     if block.len() == 2 {
-        return (255 - plain_of(two(block))) as u8;
+        return check_of_word(word_of(block[0], block[1]));
     }
     if block.len() == 8 {
         return (255 - plain_of(folded(four(&block[..4]), four(&block[4..])))) as u8;

@@ -1,6 +1,7 @@
 pub mod Rows
 pub mod BlockLaws
 pub mod Turns
+pub mod WordLaws
 pub mod Order
 pub mod Apart
 pub mod RoundTrip

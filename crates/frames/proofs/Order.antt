@@ -193,8 +193,7 @@ module _ (word f : ℕ) (out : List ℕ) (allowed : Bool) (g : f ≡ fCode word)
     unfolding masterWrite masterWriteOut
     master-write-4 b = (simp (allowed-word, lt-ltb (length out) 3 b), simp (allowed-word, lt-ltb (length out) 3 b))
 
-    pub master-write-done : (pair : List ℕ) → pair ≡ wordBytes word → 3 ≤ length out → (out₁ : List ℕ) → out₁ ≡ framed 1 2 pair ++ drop 3 out
+    pub master-write-done : 3 ≤ length out → (out₁ : List ℕ) → out₁ ≡ framed 1 2 (wordBytes word) ++ drop 3 out
         → (gives (3 ∷ []) ≡ masterWrite word (length out)) × (out₁ ≡ masterWriteOut word out)
     unfolding masterWrite masterWriteOut masterFrame
-    master-write-done pair e b out₁ g₁ =
-        (simp (allowed-word, le-ltb (length out) 3 b), g₁ ∙ ap (λ (p : List ℕ). framed 1 2 p ++ drop 3 out) e ∙ simp (allowed-word, le-ltb (length out) 3 b))
+    master-write-done b out₁ g₁ = (simp (allowed-word, le-ltb (length out) 3 b), g₁ ∙ simp (allowed-word, le-ltb (length out) 3 b))

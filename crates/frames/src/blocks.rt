@@ -1,8 +1,10 @@
 // Blocks of data, each followed by its check sequence.
+use crate::shapes::word_of;
 ghost use mathlib.Core.Path.{_≡_};
 ghost use mathlib.Core.List.{_++_};
 ghost use Prim.Native.Nat.{_+_, _*_, _≤_};
 ghost use lib.ListN.{length, drop};
+ghost use Rattle.frames.specs.Words.{wordBytes};
 ghost use Rattle.frames.specs.Blocks.{rightBlocks, dataIn, framed};
 
 // How many of so many blocks of `size` bytes, from the first, are followed by their check sequence.
@@ -22,6 +24,16 @@ pub(crate) fn right_blocks(frame: &[u8], count: usize, size: usize) -> usize
         right += 1;
     }
     right
+}
+
+// The same of a word and the byte that follows it.
+pub(crate) fn right_word(frame: &[u8]) -> usize
+    requires { ⌜ length (now frame) ≡ 3 ⌝ }
+    ensures { λ r. ⌜ r ≡ rightBlocks 1 2 (now (frame .entry)) ⌝ }
+{
+    let word = word_of(frame[0], frame[1]);
+    let check = checks::check_of_word(word);
+    if check == frame[2] { 1 } else { 0 }
 }
 
 // The data of so many blocks of `size` bytes, at the start of `out`.
@@ -59,4 +71,15 @@ pub(crate) fn write_blocks(data: &[u8], count: usize, size: usize, out: &mut [u8
         to = last + 1;
         left -= 1;
     }
+}
+
+// The frame of a word, at the start of `out`.
+pub(crate) fn write_word(word: u16, out: &mut [u8])
+    requires { ⌜ 3 ≤ length (now out) ⌝ }
+    ensures { λ _. ⌜ now (out .exit) ≡ framed 1 2 (wordBytes word) ++ drop 3 (now (out .entry)) ⌝ }
+{
+    let check = checks::check_of_word(word);
+    out[0] = (word / 256) as u8;
+    out[1] = (word % 256) as u8;
+    out[2] = check;
 }

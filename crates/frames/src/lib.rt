@@ -50,14 +50,29 @@ const ROWS: [[u16; 4]; 16] = [
     [16, 3, 33, 1],
 ];
 
-// The row of an F_code; of zeros above 15, as of a reserved one.
+// The row of an F_code; of zeros above 15, as of a reserved one. With an index that is a constant no copy of the table is made.
 pub fn row_of(f_code: u8) -> [u16; 4]
     ensures { λ r. ⌜ r ≡ rowOf «f_code» ⌝ }
 {
-    if 15 < f_code {
-        return [0, 0, 0, 0];
+    match f_code {
+        0 => ROWS[0],
+        1 => ROWS[1],
+        2 => ROWS[2],
+        3 => ROWS[3],
+        4 => ROWS[4],
+        5 => ROWS[5],
+        6 => ROWS[6],
+        7 => ROWS[7],
+        8 => ROWS[8],
+        9 => ROWS[9],
+        10 => ROWS[10],
+        11 => ROWS[11],
+        12 => ROWS[12],
+        13 => ROWS[13],
+        14 => ROWS[14],
+        15 => ROWS[15],
+        _ => [0, 0, 0, 0],
     }
-    ROWS[f_code as usize]
 }
 
 // Reads a Master Frame: a word and its check sequence.
@@ -67,7 +82,7 @@ pub fn master_read(frame: &[u8]) -> MasterRead
     if frame.len() != 3 {
         return MasterRead::Refused(Refusal::WrongLength);
     }
-    if blocks::right_blocks(frame, 1, 2) != 1 {
+    if blocks::right_word(frame) != 1 {
         return MasterRead::Refused(Refusal::WrongCheck);
     }
     let word = shapes::word_of(frame[0], frame[1]);
@@ -87,8 +102,7 @@ pub fn master_write(word: u16, out: &mut [u8]) -> Wrote
     if out.len() < 3 {
         return Wrote::Refused(Refusal::TooShort);
     }
-    let pair = shapes::bytes_of(word);
-    blocks::write_blocks(&pair, 1, 2, out);
+    blocks::write_word(word, out);
     Wrote::Bytes(3)
 }
 
@@ -141,7 +155,7 @@ pub fn line_answer(bytes: &[u8]) -> LineAnswer
     if bytes.len() != 3 {
         return LineAnswer::Collision;
     }
-    if blocks::right_blocks(bytes, 1, 2) != 1 {
+    if blocks::right_word(bytes) != 1 {
         return LineAnswer::Collision;
     }
     LineAnswer::Reply(shapes::word_of(bytes[0], bytes[1]))

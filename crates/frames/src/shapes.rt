@@ -3,7 +3,7 @@ ghost use mathlib.Core.Path.{_≡_};
 ghost use mathlib.Core.Bool.{not};
 ghost use mathlib.Core.List.{[], _∷_};
 ghost use Prim.Native.Nat.{_+_, _*_};
-ghost use Rattle.frames.specs.Words.{fCode, wordBytes};
+ghost use Rattle.frames.specs.Words.{fCode};
 ghost use Rattle.frames.specs.Rows.{reserved, dataBytes, blocks, blockBytes, frameBytes};
 
 pub(crate) struct Shape {
@@ -18,12 +18,6 @@ pub(crate) fn word_of(high: u8, low: u8) -> u16
     ensures { λ r. ⌜ r ≡ high * 256 + low ⌝ }
 {
     (high as u16) * 256 + low as u16
-}
-
-pub(crate) fn bytes_of(word: u16) -> [u8; 2]
-    ensures { λ r. ⌜ r ≡ wordBytes word ⌝ }
-{
-    [(word / 256) as u8, (word % 256) as u8]
 }
 
 pub(crate) fn f_code_of(word: u16) -> u8

@@ -8,7 +8,7 @@ use Rattle.frames.proofs.line_answer.Tie as tie
 returns-4 : tie.Need-returns-4
 returns-4 c =
     let right : tie.Else3 = c .before .before .before in
-    line-reply _ (right .before .before .if2 .left) (right .before .right-blocks .ensures) (right .if3 .left) _ (c .word-of .ensures) (right .before .before .before .if1 .left)
+    line-reply _ (right .before .before .if2 .left) (right .before .right-word .ensures) (right .if3 .left) _ (c .word-of .ensures) (right .before .before .before .if1 .left)
 
 pub line-answer-spec : {M : Type 1} → statement M
 line-answer-spec =
@@ -17,7 +17,7 @@ line-answer-spec =
     (λ c. line-none _ (c .if1 .taken))
     (λ c. line-length _ (c .before .if1 .left) (c .if2 .taken))
     (λ c κs. search needs)
-    (λ c. line-wrong _ (c .before .before .if2 .left) (c .before .right-blocks .ensures) (c .before .before .before .if1 .left) (c .if3 .taken))
+    (λ c. line-wrong _ (c .before .before .if2 .left) (c .before .right-word .ensures) (c .before .before .before .if1 .left) (c .if3 .taken))
     (λ c. search needs)
     (λ c. search needs)
     (λ c κs. search needs)

@@ -8,12 +8,12 @@ use Rattle.frames.proofs.master_read.Tie as tie
 returns-3 : tie.Need-returns-3
 returns-3 c =
     let right : tie.Else2 = c .before .before .before .before .before .before in
-    master-read-3 _ (right .before .before .if1 .left) (right .before .right-blocks .ensures) (right .if2 .left) _ (c .before .before .before .word-of .ensures) _ _ (c .before .before .f-code-of .ensures) (c .before .allowed .ensures) (c .if3 .taken)
+    master-read-3 _ (right .before .before .if1 .left) (right .before .right-word .ensures) (right .if2 .left) _ (c .before .before .before .word-of .ensures) _ _ (c .before .before .f-code-of .ensures) (c .before .allowed .ensures) (c .if3 .taken)
 
 returns-4 : tie.Need-returns-4
 returns-4 c =
     let right : tie.Else2 = c .before .before .before .before .before .before in
-    master-read-done _ (right .before .before .if1 .left) (right .before .right-blocks .ensures) (right .if2 .left) _ (c .before .before .before .word-of .ensures) _ _ (c .before .before .f-code-of .ensures) (c .before .allowed .ensures) (c .if3 .left)
+    master-read-done _ (right .before .before .if1 .left) (right .before .right-word .ensures) (right .if2 .left) _ (c .before .before .before .word-of .ensures) _ _ (c .before .before .f-code-of .ensures) (c .before .allowed .ensures) (c .if3 .left)
 
 pub master-read-spec : {M : Type 1} → statement M
 master-read-spec =
@@ -21,7 +21,7 @@ master-read-spec =
     (tie.spec
     (λ c. master-read-1 _ (c .if1 .taken))
     (λ c κs. search needs)
-    (λ c. master-read-2 _ (c .before .before .if1 .left) (c .before .right-blocks .ensures) (c .if2 .taken))
+    (λ c. master-read-2 _ (c .before .before .if1 .left) (c .before .right-word .ensures) (c .if2 .taken))
     (λ c. search needs)
     (λ c. search needs)
     (λ c κs. search needs)
