@@ -33,7 +33,7 @@ static unsigned any_reserve(unsigned ms, unsigned gap)
 /* Few words in few cycles mostly; one list in three hundred as full as it gets. */
 static struct shape any_shape(void)
 {
-    struct shape shape = {.ms = between(1, 2), .gap = between(4, one_in(4) ? 128 : 40), .f_code = -1};
+    struct shape shape = {.ms = one_in(3) ? 1 : 2, .gap = between(4, one_in(4) ? 128 : 40), .f_code = -1};
     shape.reserve = any_reserve(shape.ms, shape.gap);
     shape.tight = one_in(8);
     if (one_in(300)) {
