@@ -100,13 +100,14 @@ enum mvb_round_place {
     MVB_ROUND_NUMBERS = 6
 };
 
-/* Enough for every accepted input: data and bytes of the largest frame, bytes of a list file, words of a Basic
- * Period, records of a port table, bytes of a set of devices. */
+/* Enough for every input: data and bytes of the largest frame, bytes of an accepted list file, words of a Basic Period,
+ * bytes of a list's text, records of a good port table, bytes of a set of devices. */
 enum mvb_most {
     MVB_MOST_DATA = 32,
     MVB_MOST_FRAME = 36,
     MVB_MOST_LIST = 16384,
     MVB_MOST_WORDS = 64,
+    MVB_MOST_TEXT = 42256,
     MVB_MOST_PORTS = 256,
     MVB_SET_BYTES = 512
 };
@@ -195,8 +196,8 @@ uint32_t mvb_basic_period(const uint8_t *list, size_t length, uint16_t j, uint16
 /* The text of a list: "refused", a space and the number; or a header (ms, gap, reserve, words), then per word in file
  * order the word in four hex digits with capitals, the cycle as 2^n, the Subcycle. Fields stand one space apart, each
  * line ends with a newline. No zero byte is added.
- * Answers how many bytes were written to `out`. Order: 4 for the output. A bad list is no refusal here: its text
- * says so. */
+ * Answers how many bytes were written to `out`; MVB_MOST_TEXT always suffice. Order: 4 for the output. A bad list is no
+ * refusal here: its text says so. */
 uint32_t mvb_list_text(const uint8_t *list, size_t length, uint8_t *out, size_t room);
 
 /* Ports and ages ----------------------------------------------------------------------------------------------- */

@@ -7,7 +7,7 @@
 #include <string.h>
 
 enum { CHECK, PERIOD, TEXT, FACES };
-enum { MOST_BYTES = 20000, MOST_TEXT = 40000 };
+enum { MOST_BYTES = 20000 };
 
 enum { LIST_ANSWERS = 1u << 1 | 1u << 5 | 1u << 6 | 1u << 7 | 1u << 8 | 1u << 9 | 1u << 10 | 1u << 11 };
 
@@ -218,8 +218,11 @@ static void turn(void)
     some_periods(accepted);
     if (accepted && one_in(2000))
         every_period();
-    if (one_in(16))
-        text(about(text(MOST_TEXT), MOST_TEXT));
+    if (one_in(16)) {
+        uint32_t bytes = text(MVB_MOST_TEXT);
+        holds(!MVB_REFUSED(bytes), "MVB_MOST_TEXT bytes always suffice");
+        text(about(bytes, MVB_MOST_TEXT));
+    }
 }
 
 const struct topic lists_topic = {"lists", faces, FACES, turn, 100000};
