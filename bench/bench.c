@@ -39,71 +39,25 @@ struct calls {
     uint32_t (*tick)(const struct mvb_port *, size_t, uint16_t *, size_t);
 };
 
-/* The topics that the archive has whole (tests/compare/topics). */
-enum {
-#ifdef TOPIC_frames
-    HAS_FRAMES = 1,
-#else
-    HAS_FRAMES = 0,
-#endif
-#ifdef TOPIC_timing
-    HAS_TIMING = 1,
-#else
-    HAS_TIMING = 0,
-#endif
-#ifdef TOPIC_rounds
-    HAS_ROUNDS = 1,
-#else
-    HAS_ROUNDS = 0,
-#endif
-#ifdef TOPIC_search
-    HAS_SEARCH = 1,
-#else
-    HAS_SEARCH = 0,
-#endif
-#ifdef TOPIC_lists
-    HAS_LISTS = 1,
-#else
-    HAS_LISTS = 0,
-#endif
-#ifdef TOPIC_ports
-    HAS_PORTS = 1,
-#else
-    HAS_PORTS = 0,
-#endif
-};
-
 static const struct calls ours = {
-#ifdef TOPIC_frames
     .check_of = mvb_check_of,
     .master_read = mvb_master_read,
     .master_write = mvb_master_write,
     .slave_read = mvb_slave_read,
     .slave_write = mvb_slave_write,
-#endif
-#ifdef TOPIC_timing
     .telegram_bits = mvb_telegram_bits,
     .guard = mvb_guard,
-#endif
-#ifdef TOPIC_rounds
     .round_start = mvb_round_start,
     .round_answer = mvb_round_answer,
-#endif
-#ifdef TOPIC_search
     .search = mvb_search,
-#endif
-#ifdef TOPIC_lists
     .list_check = mvb_list_check,
     .basic_period = mvb_basic_period,
     .list_text = mvb_list_text,
-#endif
-#ifdef TOPIC_ports
     .arrive = mvb_arrive,
     .answer = mvb_answer,
     .read = mvb_read,
     .fill = mvb_fill,
     .tick = mvb_tick,
-#endif
 };
 
 static const struct calls peer = {
@@ -259,7 +213,6 @@ static void make_inputs(const char *lists)
 /* A row: so many calls on inputs of one size; the sum of all answers comes back. */
 struct row {
     const char *what, *size, *function;
-    int is_there;
     uint32_t (*run)(const struct calls *calls, const struct row *row, unsigned times);
     size_t bytes;
     uint8_t f_code;
@@ -464,49 +417,49 @@ static uint32_t run_search(const struct calls *c, const struct row *row, unsigne
 
 /* A series of rows has one name and rising sizes. */
 static const struct row rows[] = {
-    {"check sequence", "2 bytes", "check_of", HAS_FRAMES, run_check, 2, 0, NULL},
-    {"check sequence", "8 bytes", "check_of", HAS_FRAMES, run_check, 8, 0, NULL},
-    {"check sequence", "64 bytes", "check_of", HAS_FRAMES, run_check, 64, 0, NULL},
-    {"check sequence", "256 bytes", "check_of", HAS_FRAMES, run_check, 256, 0, NULL},
-    {"Master Frame read", "", "master_read", HAS_FRAMES, run_master_read, 3, 0, NULL},
-    {"Master Frame write", "", "master_write", HAS_FRAMES, run_master_write, 3, 0, NULL},
-    {"Slave Frame read", "16 bits", "slave_read", HAS_FRAMES, run_slave_read, 3, 0, NULL},
-    {"Slave Frame read", "64 bits", "slave_read", HAS_FRAMES, run_slave_read, 9, 2, NULL},
-    {"Slave Frame read", "256 bits", "slave_read", HAS_FRAMES, run_slave_read, 36, 4, NULL},
-    {"Slave Frame write", "16 bits", "slave_write", HAS_FRAMES, run_slave_write, 2, 0, NULL},
-    {"Slave Frame write", "64 bits", "slave_write", HAS_FRAMES, run_slave_write, 8, 2, NULL},
-    {"Slave Frame write", "256 bits", "slave_write", HAS_FRAMES, run_slave_write, 32, 4, NULL},
-    {"guard", "", "guard", HAS_TIMING, run_guard, 0, 0, NULL},
-    {"arrival, 256 bits", "1 record", "arrive", HAS_PORTS, run_arrive, 0, 0, &bus_1},
-    {"arrival, 256 bits", "16 records", "arrive", HAS_PORTS, run_arrive, 0, 0, &bus_16},
-    {"arrival, 256 bits", "64 records", "arrive", HAS_PORTS, run_arrive, 0, 0, &bus_64},
-    {"arrival, 256 bits", "256 records", "arrive", HAS_PORTS, run_arrive, 0, 0, &bus_256},
-    {"source answers", "16 records", "answer", HAS_PORTS, run_answer, 0, 0, &bus_16},
-    {"source answers", "256 records", "answer", HAS_PORTS, run_answer, 0, 0, &bus_256},
-    {"sink read, 256 bits", "16 records", "read", HAS_PORTS, run_read, 0, 0, &bus_16},
-    {"sink read, 256 bits", "256 records", "read", HAS_PORTS, run_read, 0, 0, &bus_256},
-    {"source filled", "16 records", "fill", HAS_PORTS, run_fill, 0, 0, &bus_16},
-    {"source filled", "256 records", "fill", HAS_PORTS, run_fill, 0, 0, &bus_256},
-    {"tick", "16 records", "tick", HAS_PORTS, run_tick, 0, 0, &bus_16},
-    {"tick", "256 records", "tick", HAS_PORTS, run_tick, 0, 0, &bus_256},
-    {"list check", "smallest", "list_check", HAS_LISTS, run_list_check, 0, 0, &smallest},
-    {"list check", "typical", "list_check", HAS_LISTS, run_list_check, 0, 0, &typical},
-    {"list check", "largest", "list_check", HAS_LISTS, run_list_check, 0, 0, &largest},
-    {"Basic Period", "smallest", "basic_period", HAS_LISTS, run_period, 0, 0, &smallest},
-    {"Basic Period", "typical", "basic_period", HAS_LISTS, run_period, 0, 0, &typical},
-    {"Basic Period", "largest", "basic_period", HAS_LISTS, run_period, 0, 0, &largest},
-    {"list text", "smallest", "list_text", HAS_LISTS, run_text, 0, 0, &smallest},
-    {"list text", "typical", "list_text", HAS_LISTS, run_text, 0, 0, &typical},
-    {"list text", "largest", "list_text", HAS_LISTS, run_text, 0, 0, &largest},
-    {"round step", "a collision", "round_answer", HAS_ROUNDS, run_step, 0, 0, NULL},
-    {"whole round", "k = 0", "round_answer", HAS_ROUNDS, run_round, 0, 0, &event_0},
-    {"whole round", "k = 2", "round_answer", HAS_ROUNDS, run_round, 0, 0, &event_2},
-    {"whole round", "k = 64", "round_answer", HAS_ROUNDS, run_round, 0, 0, &event_64},
-    {"whole round", "k = 4,096", "round_answer", HAS_ROUNDS, run_round, 0, 0, &event_4096},
-    {"search", "k = 0", "search", HAS_SEARCH, run_search, 0, 0, &event_0},
-    {"search", "k = 2", "search", HAS_SEARCH, run_search, 0, 0, &event_2},
-    {"search", "k = 64", "search", HAS_SEARCH, run_search, 0, 0, &event_64},
-    {"search", "k = 4,096", "search", HAS_SEARCH, run_search, 0, 0, &event_4096},
+    {"check sequence", "2 bytes", "check_of", run_check, 2, 0, NULL},
+    {"check sequence", "8 bytes", "check_of", run_check, 8, 0, NULL},
+    {"check sequence", "64 bytes", "check_of", run_check, 64, 0, NULL},
+    {"check sequence", "256 bytes", "check_of", run_check, 256, 0, NULL},
+    {"Master Frame read", "", "master_read", run_master_read, 3, 0, NULL},
+    {"Master Frame write", "", "master_write", run_master_write, 3, 0, NULL},
+    {"Slave Frame read", "16 bits", "slave_read", run_slave_read, 3, 0, NULL},
+    {"Slave Frame read", "64 bits", "slave_read", run_slave_read, 9, 2, NULL},
+    {"Slave Frame read", "256 bits", "slave_read", run_slave_read, 36, 4, NULL},
+    {"Slave Frame write", "16 bits", "slave_write", run_slave_write, 2, 0, NULL},
+    {"Slave Frame write", "64 bits", "slave_write", run_slave_write, 8, 2, NULL},
+    {"Slave Frame write", "256 bits", "slave_write", run_slave_write, 32, 4, NULL},
+    {"guard", "", "guard", run_guard, 0, 0, NULL},
+    {"arrival, 256 bits", "1 record", "arrive", run_arrive, 0, 0, &bus_1},
+    {"arrival, 256 bits", "16 records", "arrive", run_arrive, 0, 0, &bus_16},
+    {"arrival, 256 bits", "64 records", "arrive", run_arrive, 0, 0, &bus_64},
+    {"arrival, 256 bits", "256 records", "arrive", run_arrive, 0, 0, &bus_256},
+    {"source answers", "16 records", "answer", run_answer, 0, 0, &bus_16},
+    {"source answers", "256 records", "answer", run_answer, 0, 0, &bus_256},
+    {"sink read, 256 bits", "16 records", "read", run_read, 0, 0, &bus_16},
+    {"sink read, 256 bits", "256 records", "read", run_read, 0, 0, &bus_256},
+    {"source filled", "16 records", "fill", run_fill, 0, 0, &bus_16},
+    {"source filled", "256 records", "fill", run_fill, 0, 0, &bus_256},
+    {"tick", "16 records", "tick", run_tick, 0, 0, &bus_16},
+    {"tick", "256 records", "tick", run_tick, 0, 0, &bus_256},
+    {"list check", "smallest", "list_check", run_list_check, 0, 0, &smallest},
+    {"list check", "typical", "list_check", run_list_check, 0, 0, &typical},
+    {"list check", "largest", "list_check", run_list_check, 0, 0, &largest},
+    {"Basic Period", "smallest", "basic_period", run_period, 0, 0, &smallest},
+    {"Basic Period", "typical", "basic_period", run_period, 0, 0, &typical},
+    {"Basic Period", "largest", "basic_period", run_period, 0, 0, &largest},
+    {"list text", "smallest", "list_text", run_text, 0, 0, &smallest},
+    {"list text", "typical", "list_text", run_text, 0, 0, &typical},
+    {"list text", "largest", "list_text", run_text, 0, 0, &largest},
+    {"round step", "a collision", "round_answer", run_step, 0, 0, NULL},
+    {"whole round", "k = 0", "round_answer", run_round, 0, 0, &event_0},
+    {"whole round", "k = 2", "round_answer", run_round, 0, 0, &event_2},
+    {"whole round", "k = 64", "round_answer", run_round, 0, 0, &event_64},
+    {"whole round", "k = 4,096", "round_answer", run_round, 0, 0, &event_4096},
+    {"search", "k = 0", "search", run_search, 0, 0, &event_0},
+    {"search", "k = 2", "search", run_search, 0, 0, &event_2},
+    {"search", "k = 64", "search", run_search, 0, 0, &event_64},
+    {"search", "k = 4,096", "search", run_search, 0, 0, &event_4096},
 };
 
 enum { ROWS = sizeof rows / sizeof rows[0] };
@@ -625,12 +578,10 @@ static void print_row(const struct row *row, const struct shown s[SIDES], double
 static void print_table(const char *stacks)
 {
     double first = 1;
-    unsigned behind = 0, measured = 0;
+    unsigned behind = 0;
     printf("| call                | input       |    ours ns |    peer ns | ratio |  noise | Boost (ratio) |   grows |"
            " stack | peer's |\n|---|---|---|---|---|---|---|---|---|---|\n");
     for (const struct row *row = rows; row < rows + ROWS; row++) {
-        if (!row->is_there)
-            continue;
         int has_boost = row->run == run_check;
         const struct calls *sides[SIDES] = {&ours, &peer, has_boost ? &boost : NULL};
         struct shown shown[SIDES];
@@ -642,10 +593,9 @@ static void print_table(const char *stacks)
             first = shown[0].time.median;
         print_row(row, shown, first, stacks, has_boost);
         behind += shown[1].ratio.median > 1;
-        measured++;
         fflush(stdout);
     }
-    printf("\n%u of %u rows are behind the peer.\n", behind, measured);
+    printf("\n%u of %u rows are behind the peer.\n", behind, (unsigned)ROWS);
 }
 
 /* The check sequence of 8 bytes once more, beside eight tables of 256 bytes. */
@@ -654,8 +604,6 @@ static void print_eight_tables(void)
     const struct row *row = &rows[1];
     const struct calls *sides[SIDES] = {&ours, &eight_tables, NULL};
     struct shown shown[SIDES];
-    if (!row->is_there)
-        return;
     must_agree(row, &ours, &eight_tables);
     measure(row, sides, shown);
     printf("Check sequence of 8 bytes by eight tables of 256 bytes: %.1f ns; ours %.1f ns, ratio %.2f.\n",

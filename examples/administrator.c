@@ -54,12 +54,21 @@ static int load(const uint8_t *bytes, size_t length)
     return 1;
 }
 
-/* Sends a word as a Master Frame, and listens. The word comes from the library or from an accepted list. */
+/* Sends a word as a Master Frame, and listens. The word comes from the library or from an accepted list, and there is
+ * room for it: its Master Frame is not refused. */
 static size_t ask(uint16_t word, uint8_t heard[LINE_ROOM])
 {
     uint8_t master[3];
     telegrams++;
     return line_ask(master, mvb_master_write(word, master, sizeof master), heard);
+}
+
+/* The same for a source of our own, which answers itself. */
+static void tell(uint16_t word, const uint8_t *slave, size_t length)
+{
+    uint8_t master[3];
+    telegrams++;
+    line_send(master, mvb_master_write(word, master, sizeof master), slave, length);
 }
 
 /* One telegram of the list: a source of ours answers, what a sink of ours hears is stored. */
@@ -68,8 +77,7 @@ static void poll_port(uint16_t word)
     uint8_t frame[LINE_ROOM];
     uint32_t answer = mvb_answer(table, PORTS, store, STORE, word, frame, sizeof frame);
     if (!MVB_REFUSED(answer)) {
-        telegrams++;
-        line_send(frame, answer);
+        tell(word, frame, answer);
         return;
     }
     size_t length = ask(word, frame);
@@ -88,6 +96,8 @@ static uint32_t periodic_phase(uint16_t j)
     uint16_t words[MVB_MOST_WORDS];
     uint32_t count = mvb_basic_period(list, sizeof list, j, words, MVB_MOST_WORDS);
     uint32_t left = 1500u * ms;
+    if (MVB_REFUSED(count))
+        return 0; /* the list is not what it was when it was loaded: nothing more is sent */
     for (uint32_t i = 0; i < count; i++) {
         poll_port(words[i]);
         left -= mvb_telegram_bits((uint8_t)(words[i] >> 12), gap);

@@ -22,10 +22,14 @@ void line_silence(uint16_t address)
     silent = address;
 }
 
-void line_send(const uint8_t *slave, size_t length)
+void line_send(const uint8_t *master, size_t master_bytes, const uint8_t *slave, size_t slave_bytes)
 {
-    (void)slave;
-    sent += length > 0;
+    uint8_t data[MVB_MOST_DATA];
+    uint32_t word = mvb_master_read(master, master_bytes);
+    if (MVB_REFUSED(word))
+        return;
+    uint32_t count = mvb_slave_read((uint8_t)(word >> 12), slave, slave_bytes, data, sizeof data);
+    sent += !MVB_REFUSED(count);
 }
 
 unsigned line_sent(void)

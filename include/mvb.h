@@ -100,13 +100,14 @@ enum mvb_round_place {
     MVB_ROUND_NUMBERS = 6
 };
 
-/* Enough for every accepted input: data and bytes of the largest frame, bytes of a list file, words of a Basic
- * Period, records of a port table, bytes of a set of devices. */
+/* Enough for every input: data and bytes of the largest frame, bytes of an accepted list file, words of a Basic Period,
+ * bytes of a list's text, records of a good port table, bytes of a set of devices. */
 enum mvb_most {
     MVB_MOST_DATA = 32,
     MVB_MOST_FRAME = 36,
     MVB_MOST_LIST = 16384,
     MVB_MOST_WORDS = 64,
+    MVB_MOST_TEXT = 42256,
     MVB_MOST_PORTS = 256,
     MVB_SET_BYTES = 512
 };
@@ -180,14 +181,17 @@ uint32_t mvb_search(const uint8_t *set, size_t length, uint16_t *out, size_t pla
  * its last, shortest form only, at most 65,535. In order: the number 1; the Basic Period in ms, 1 or 2; the gap, 4
  * to 128; the sporadic reserve, from 67 + gap to 1,500 x ms; then each cycle 2^n, n from 0 to 10 (to 9 for 2 ms): a
  * count 0 to 256 and that many words, and for n at least 1 and a count above 0 then 2^n split numbers, each 0 to
- * 256. Nothing follows.
+ * 256. Nothing follows. A listed word has F_code 0 to 4 or 15. No two listed Process Data words share an address,
+ * whatever their F_codes; no word with F_code 15 is listed twice. Split numbers of a cycle add up to its count. The
+ * telegrams of a Basic Period and the reserve take at most 1,500 x ms bit times.
  * Answers the number of words; the Basic Period in ms, the gap and the reserve go to the three single numbers.
  * Order: 1 for a file above 16,384 bytes; each at its number as it is read 5, 6, 7, 8; 9 after a cycle's last split
  * number; after the last cycle 11, then 10, then 19 (which, after 10, no list gets). */
 uint32_t mvb_list_check(const uint8_t *list, size_t length, uint16_t *ms, uint16_t *gap, uint16_t *reserve);
 
-/* The words that Basic Period j sends: Subcycle j mod 2^n of each cycle, cycles rising, words in list order. A
- * Macro_Cycle has 1,024 Basic Periods for 1 ms, 512 for 2 ms, numbered from 0.
+/* The words that Basic Period j sends: Subcycle j mod 2^n of each cycle, cycles rising, words in list order. The first
+ * words of a cycle, as many as split number 0 says, are in Subcycle 0, the next in Subcycle 1, and so on; all of cycle
+ * 1 is in Subcycle 0. A Macro_Cycle has 1,024 Basic Periods for 1 ms, 512 for 2 ms, numbered from 0, and repeats.
  * Answers how many words were written to `out`. Order: all list refusals as mvb_list_check gives them, 12 for j,
  * 4 for the output. */
 uint32_t mvb_basic_period(const uint8_t *list, size_t length, uint16_t j, uint16_t *out, size_t places);
@@ -195,8 +199,8 @@ uint32_t mvb_basic_period(const uint8_t *list, size_t length, uint16_t j, uint16
 /* The text of a list: "refused", a space and the number; or a header (ms, gap, reserve, words), then per word in file
  * order the word in four hex digits with capitals, the cycle as 2^n, the Subcycle. Fields stand one space apart, each
  * line ends with a newline. No zero byte is added.
- * Answers how many bytes were written to `out`. Order: 4 for the output. A bad list is no refusal here: its text
- * says so. */
+ * Answers how many bytes were written to `out`; MVB_MOST_TEXT always suffice. Order: 4 for the output. A bad list is no
+ * refusal here: its text says so. */
 uint32_t mvb_list_text(const uint8_t *list, size_t length, uint8_t *out, size_t room);
 
 /* Ports and ages ----------------------------------------------------------------------------------------------- */

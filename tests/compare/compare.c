@@ -13,24 +13,12 @@
 enum { GATE_SECONDS = 1200, TURNS_AT_ONCE = 64 };
 
 static const struct topic *const topics[] = {
-#ifdef TOPIC_frames
     &frames_topic,
-#endif
-#ifdef TOPIC_timing
     &timing_topic,
-#endif
-#ifdef TOPIC_rounds
     &rounds_topic,
-#endif
-#ifdef TOPIC_search
     &search_topic,
-#endif
-#ifdef TOPIC_lists
     &lists_topic,
-#endif
-#ifdef TOPIC_ports
     &ports_topic,
-#endif
 };
 
 enum { TOPICS = sizeof topics / sizeof topics[0] };

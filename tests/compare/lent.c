@@ -45,8 +45,13 @@ int one_in(uint32_t n)
 
 void any_bytes(uint8_t *to, size_t count)
 {
-    for (size_t i = 0; i < count; i++)
-        to[i] = (uint8_t)chance();
+    while (count > 0) {
+        uint32_t some = chance();
+        size_t part = count < sizeof some ? count : sizeof some;
+        memcpy(to, &some, part);
+        to += part;
+        count -= part;
+    }
 }
 
 size_t about(size_t right, size_t most)
@@ -229,10 +234,7 @@ void watch(unsigned seconds)
 static int guarded(const struct lent *run, const uint8_t *place, const uint8_t *at)
 {
     const uint8_t *guard = at == place ? at + run->count * run->width : at - GUARD;
-    for (size_t i = 0; i < GUARD; i++)
-        if (guard[i] != GUARD_BYTE)
-            return 0;
-    return 1;
+    return guard[0] == GUARD_BYTE && memcmp(guard, guard + 1, GUARD - 1) == 0;
 }
 
 static void compare_run(size_t i, int refused)

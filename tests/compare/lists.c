@@ -7,7 +7,7 @@
 #include <string.h>
 
 enum { CHECK, PERIOD, TEXT, FACES };
-enum { MOST_BYTES = 20000, MOST_TEXT = 40000 };
+enum { MOST_BYTES = 20000 };
 
 enum { LIST_ANSWERS = 1u << 1 | 1u << 5 | 1u << 6 | 1u << 7 | 1u << 8 | 1u << 9 | 1u << 10 | 1u << 11 };
 
@@ -30,13 +30,13 @@ static unsigned any_reserve(unsigned ms, unsigned gap)
     return between(67 + gap, one_in(4) ? 1500 * ms : 500);
 }
 
-/* Few words in few cycles mostly; one list in a hundred as full as it gets. */
+/* Few words in few cycles mostly; one list in three hundred as full as it gets. */
 static struct shape any_shape(void)
 {
-    struct shape shape = {.ms = between(1, 2), .gap = between(4, one_in(4) ? 128 : 40), .f_code = -1};
+    struct shape shape = {.ms = one_in(3) ? 1 : 2, .gap = between(4, one_in(4) ? 128 : 40), .f_code = -1};
     shape.reserve = any_reserve(shape.ms, shape.gap);
     shape.tight = one_in(8);
-    if (one_in(100)) {
+    if (one_in(300)) {
         shape.gap = 4;
         shape.reserve = 71;
         shape.f_code = 0;
@@ -48,7 +48,7 @@ static struct shape any_shape(void)
     }
     unsigned cycles = one_in(4) ? REF_CYCLES : between(1, 6);
     for (unsigned i = 0; i < cycles; i++)
-        shape.want[one_in(4) ? below(REF_CYCLES) : i] = one_in(16) ? below(257) : below(5);
+        shape.want[one_in(4) ? below(REF_CYCLES) : i] = one_in(32) ? below(257) : below(5);
     shape.overfull = one_in(12);
     return shape;
 }
@@ -186,7 +186,7 @@ static uint16_t any_period(void)
 
 static void some_periods(int accepted)
 {
-    for (unsigned i = accepted ? 3 : 1; i > 0; i--) {
+    for (unsigned i = accepted ? 2 : 1; i > 0; i--) {
         uint16_t j = any_period();
         uint32_t count = period(j, MVB_MOST_WORDS);
         if (!MVB_REFUSED(count) && one_in(2))
@@ -216,10 +216,13 @@ static void turn(void)
     any_list();
     int accepted = !MVB_REFUSED(check());
     some_periods(accepted);
-    if (accepted && one_in(1000))
+    if (accepted && one_in(2000))
         every_period();
-    if (one_in(8))
-        text(about(text(MOST_TEXT), MOST_TEXT));
+    if (one_in(16)) {
+        uint32_t bytes = text(MVB_MOST_TEXT);
+        holds(!MVB_REFUSED(bytes), "MVB_MOST_TEXT bytes always suffice");
+        text(about(bytes, MVB_MOST_TEXT));
+    }
 }
 
 const struct topic lists_topic = {"lists", faces, FACES, turn, 100000};

@@ -17,7 +17,6 @@ static int planted(const char *name)
     uint32_t __wrap_##name(__VA_ARGS__);                                                                              \
     uint32_t __wrap_##name(__VA_ARGS__)
 
-#ifdef TOPIC_frames
 /* reads the byte behind the block */
 BEFORE(mvb_check_of, const uint8_t *block, size_t length)
 {
@@ -61,18 +60,14 @@ BEFORE(mvb_slave_write, uint8_t f_code, const uint8_t *data, size_t length, uint
         out[answer - 1] ^= 1;
     return answer;
 }
-#endif
 
-#ifdef TOPIC_timing
 /* a telegram that takes all that is left is denied */
 BEFORE(mvb_guard, uint32_t left, uint16_t gap, uint8_t f_code)
 {
     uint32_t answer = __real_mvb_guard(left, gap, f_code);
     return answer == 1 && planted("below-and-not-at") && left == mvb_telegram_bits(f_code, gap) ? 0 : answer;
 }
-#endif
 
-#ifdef TOPIC_rounds
 /* an unresolved device is not counted, once there are four */
 BEFORE(mvb_round_answer, uint16_t *round, size_t numbers, const uint8_t *bytes, size_t length)
 {
@@ -82,9 +77,7 @@ BEFORE(mvb_round_answer, uint16_t *round, size_t numbers, const uint8_t *bytes, 
         round[MVB_ROUND_UNRESOLVED] = 3;
     return answer;
 }
-#endif
 
-#ifdef TOPIC_search
 /* the last two devices of three change places */
 BEFORE(mvb_search, const uint8_t *set, size_t length, uint16_t *out, size_t places, uint16_t *requests)
 {
@@ -96,9 +89,7 @@ BEFORE(mvb_search, const uint8_t *set, size_t length, uint16_t *out, size_t plac
     }
     return answer;
 }
-#endif
 
-#ifdef TOPIC_lists
 /* split numbers that do not add up are taken for a word listed twice, in a long list */
 BEFORE(mvb_list_check, const uint8_t *list, size_t length, uint16_t *ms, uint16_t *gap, uint16_t *reserve)
 {
@@ -117,9 +108,16 @@ BEFORE(mvb_basic_period, const uint8_t *list, size_t length, uint16_t j, uint16_
     }
     return answer;
 }
-#endif
 
-#ifdef TOPIC_ports
+/* the text of a long list lacks its last newline */
+BEFORE(mvb_list_text, const uint8_t *list, size_t length, uint8_t *out, size_t room)
+{
+    uint32_t answer = __real_mvb_list_text(list, length, out, room);
+    if (!MVB_REFUSED(answer) && answer > 256 && planted("newline-lost"))
+        out[answer - 1] = ' ';
+    return answer;
+}
+
 /* the neighbour's first byte is written along */
 BEFORE(mvb_arrive, const struct mvb_port *table, size_t records, uint8_t *store, size_t store_bytes, uint16_t *ages,
        size_t ages_count, uint16_t word, const uint8_t *frame, size_t length)
@@ -140,4 +138,3 @@ BEFORE(mvb_tick, const struct mvb_port *table, size_t records, uint16_t *ages, s
         ages[0] = 0;
     return answer;
 }
-#endif

@@ -59,13 +59,20 @@ static void bed_table(void)
         {1, 0, 1}, {2, 1, 1}, {3, 2, 1}, {4, 3, 1}, {5, 4, 1},  {6, 0, 0},
         {7, 1, 0}, {8, 2, 0}, {9, 3, 0}, {10, 4, 0}, {25, 3, 0}, {26, 2, 0},
     };
-    unsigned kind = below(4);
+    static const struct mvb_port listed[] = {
+        {10, 0, 1}, {11, 1, 1}, {12, 2, 1}, {13, 3, 1}, {14, 4, 1},
+        {15, 0, 0}, {16, 1, 0}, {17, 2, 0}, {18, 3, 0}, {19, 4, 0},
+    };
+    unsigned kind = below(5);
     if (kind == 0) {
         bus.records = sizeof device / sizeof device[0];
         memcpy(bus.table, device, sizeof device);
     } else if (kind == 1) {
         bus.records = sizeof every_size / sizeof every_size[0];
         memcpy(bus.table, every_size, sizeof every_size);
+    } else if (kind == 4) {
+        bus.records = sizeof listed / sizeof listed[0];
+        memcpy(bus.table, listed, sizeof listed);
     } else {
         bus.records = 10;
         for (unsigned i = 0; i < 10; i++)
@@ -173,8 +180,8 @@ static void arrive(void)
     any_bytes(data, sizeof data);
     any_bytes(bytes, sizeof bytes);
     ref_slave_write(port.f_code, data, port_bytes(port.f_code), bytes, sizeof bytes, &length);
-    if (one_in(6))
-        bytes[below(36)] ^= (uint8_t)(1u << below(8));
+    if (one_in(4) && length > 0)
+        bytes[below((uint32_t)length)] ^= (uint8_t)(1u << below(8));
     if (one_in(8))
         length = about(length, sizeof bytes);
     calling(&faces[ARRIVE]);
@@ -252,4 +259,4 @@ static void turn(void)
         calls[below(6)]();
 }
 
-const struct topic ports_topic = {"ports", faces, FACES, turn, 8000};
+const struct topic ports_topic = {"ports", faces, FACES, turn, 16000};

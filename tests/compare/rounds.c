@@ -78,17 +78,17 @@ static struct heard heard_of(struct ref_answer answer)
     }
 }
 
-/* Few devices mostly, and their low address bits often alike. */
+/* Few devices mostly, and their low address bits often alike; one round in sixty-four may have any number. */
 static void any_line(struct seeded_line *line)
 {
     unsigned shared = one_in(3) ? below(12) : 0;
     unsigned most = 4096u >> shared;
-    unsigned k = below(one_in(8) ? most + 1 : (most < 12 ? most : 12) + 1);
+    unsigned k = below(one_in(64) ? most + 1 : (most < 12 ? most : 12) + 1);
     line->x = chance() | 1;
     seeded_set(line->set, k, shared, &line->x);
     line->hash = hash_start();
     line->kind = (enum line_kind)below(LINE_KINDS);
-    if (line->kind == ALWAYS_COLLISION && !one_in(50))
+    if (line->kind == ALWAYS_COLLISION && !one_in(200))
         line->kind = TRUTHFUL;
 }
 
@@ -179,4 +179,4 @@ static void turn(void)
 }
 
 /* A turn is a whole round and sixteen single steps. One start in six is refused. */
-const struct topic rounds_topic = {"rounds", faces, FACES, turn, 15000};
+const struct topic rounds_topic = {"rounds", faces, FACES, turn, 14000};

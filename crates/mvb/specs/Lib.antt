@@ -1,3 +1,4 @@
 pub mod Values
 pub mod Rounds
 pub mod Searches
+pub mod Lists
