@@ -4,15 +4,16 @@ use mathlib.Core.Path.{_≡_, refl, sym, ap, _∙_, subst}
 use mathlib.Core.Bool.{Bool, true, false, cond}
 use Prim.Native.Nat.{ℕ, zero, suc, _+_, _-_, _*_, _%_, _^_, _≤_, _<_}
 use native.Mathlib.Omega.{arith}
-use native.Mathlib.Nat.{mod-eq-of-lt, add-mod-right}
+use native.Mathlib.Decide.{decLe}
+use native.Mathlib.Nat.{mod-eq-of-lt, add-mod-right, zero-mul, mul-le-mul-right}
 use lib.ListN.{length}
-use lib.Pow.{pow-pos, pow-add}
+use lib.Pow.{pow-pos, pow-mono, pow-add}
 use borrow.Author.Tests.{eq-eqb}
 use Rattle.groups.specs.Sets.{Member, devices}
 use Rattle.groups.proofs.Follow.{Group}
 use Rattle.groups.proofs.Powers.{at-most}
 use Rattle.groups.proofs.Counting.{along, device-count}
-use Rattle.search.specs.Inside.{Tally}
+use Rattle.search.specs.Inside.{Tally, Silent}
 
 one-more : (n s : ℕ) → suc n * s ≡ n * s + s
 one-more n s = omega arith
@@ -114,3 +115,32 @@ module _ (S : ℕ → Bool) (m c most step : ℕ) (g : Group m c) where
         go : (n : ℕ) → a + n * step ≡ c + 4096 → n ≡ 0
         go zero e = refl
         go (suc n) e = absurd (let k : c < step = subst (λ (s : ℕ). c < s) (sym (l .wide)) (g .1) in omega (arith, one-more n step))
+
+  start : (a : ℕ) → a + 0 * step ≡ a
+  start a = omega (arith, zero-mul step)
+
+  -- several addresses without an event
+  pub passed-all : (k count last a : ℕ) → Left S m c most step count last a → ((i : ℕ) → i < k → (a + i * step < 4096) × (S (a + i * step) ≡ false))
+      → Left S m c most step count last (a + k * step)
+  passed-all zero count last a l none = subst (λ (n : ℕ). Left S m c most step count last n) (sym (start a)) l
+  passed-all (suc k) count last a l none =
+      let n : Left S m c most step count last (a + step) =
+      let z = none 0 (omega arith) in passed count last a l (omega arith) (subst (λ (x : ℕ). S x ≡ false) (start a) (z .1)) in
+      subst (λ (x : ℕ). Left S m c most step count last x) (let e : a + step + k * step ≡ a + suc k * step = omega (arith, one-more k step) in e)
+      (passed-all k count last (a + step) n (λ i h. subst (λ (x : ℕ). (x < 4096) × (S x ≡ false)) (let e : a + suc i * step ≡ a + step + i * step = omega (arith, one-more i step) in e) (none (suc i) (omega arith))))
+
+  -- 64 addresses on
+  pub passed-64 : (count last a : ℕ) → Left S m c most step count last a → Silent S a step → Left S m c most step count last (a + 64)
+  passed-64 count last a l q =
+      let w = l .wide in
+      let few : 12 - m ≤ 3 = small (12 - m) (omega arith) in
+      let times : 2 ^ (6 - (12 - m)) * step ≡ 64 =
+      ap (λ (x : ℕ). 2 ^ (6 - (12 - m)) * x) w ∙ sym (pow-add 2 (6 - (12 - m)) (12 - m)) ∙ ap (λ (x : ℕ). 2 ^ x) (let e : 6 - (12 - m) + (12 - m) ≡ 6 = omega arith in e) in
+      subst (λ (x : ℕ). Left S m c most step count last (a + x)) times
+      (passed-all (2 ^ (6 - (12 - m))) count last a l (λ i h. q .1 i (below-64 i (2 ^ (6 - (12 - m))) h times)))
+    where
+      small : (k : ℕ) → 2 ^ k ≤ 8 → k ≤ 3
+      small k h = elim (decLe k 3) [ yes g ↦ g | no g ↦ absurd (let p : 2 ^ 4 ≤ 2 ^ k = pow-mono {i = 4} {j = k} (omega arith) in omega arith) ]
+
+      below-64 : (i k : ℕ) → i < k → k * step ≡ 64 → i * step + step ≤ 64
+      below-64 i k h e = let p : suc i * step ≤ k * step = mul-le-mul-right step (omega arith) in omega (arith, one-more i step)

@@ -1,10 +1,10 @@
 -- What the functions of the search promise to each other. No public promise cites this.
 -- Assumes nothing.
-use Prim.Native.Nat.{ℕ, _+_, _≤_, _<_}
+use Prim.Native.Nat.{ℕ, _+_, _*_, _≤_, _<_}
 use mathlib.Core.Path.{_≡_}
-use mathlib.Core.Bool.{Bool}
+use mathlib.Core.Bool.{Bool, false}
 use mathlib.Core.List.{List, [], _∷_}
-use lib.ListN.{length, set}
+use lib.ListN.{length, getD, set}
 use Rattle.frames.specs.declared.LineAnswer.{LineAnswer}
 use Rattle.frames.specs.declared.LineAnswer.the-variants.{Silence, Reply, Collision}
 use Rattle.frames.specs.Words.{wordOf}
@@ -22,6 +22,14 @@ pub record Tally (S : ℕ → Bool) (m c most count last : ℕ) : Type 0 where
   pub all : count < most → count ≡ length (devices S m c)
   pub enough : count ≤ most
   pub one : 1 ≤ count → Member S m c last
+
+-- so many bytes from a place on are zero
+abbrev pub Blank : List ℕ → ℕ → ℕ → Type 0
+Blank bytes at n = (i : ℕ) → i < n → getD bytes (at + i) 0 ≡ 0
+
+-- of the addresses from a on, a small step apart, none within 64 has an event
+abbrev pub Silent : (ℕ → Bool) → ℕ → ℕ → Type 0
+Silent S a step = (step ≤ 8) × ((i : ℕ) → i * step + step ≤ 64 → (a + i * step < 4096) × (S (a + i * step) ≡ false))
 
 -- l, written into out from place `at` on
 abbrev pub placed : List ℕ → ℕ → List ℕ → List ℕ

@@ -9,7 +9,7 @@ ghost use Rattle.groups.specs.Groups.{isGroup};
 ghost use Rattle.groups.specs.Sets.{devices as devicesOf};
 ghost use Rattle.groups.specs.Search.{searchOf};
 ghost use Rattle.search.specs.Searches.{inSet, searched, written};
-ghost use Rattle.search.specs.Inside.{answerTo, Tally as Tallied, placed};
+ghost use Rattle.search.specs.Inside.{answerTo, Tally as Tallied, Silent, Blank, placed};
 ghost use Rattle.search.specs.Told.{told};
 
 // Requests and reads; or a refusal.
@@ -104,22 +104,55 @@ fn tally_up(set: &[u8], m: u16, c: u16, most: u16) -> Tally
     let mut last: u16 = 0;
     let mut a = c;
     while a < 4096 {
-        if has(set, a) {
-            last = a;
-            devices = devices + 1;
-            if devices == most {
-                return Tally {
-                    devices: devices,
-                    last: last,
-                };
+        if silent(set, a, step) {
+            a = a + 64;
+        } else {
+            if has(set, a) {
+                last = a;
+                devices = devices + 1;
+                if devices == most {
+                    return Tally {
+                        devices: devices,
+                        last: last,
+                    };
+                }
             }
+            a = a + step;
         }
-        a = a + step;
     }
     Tally {
         devices: devices,
         last: last,
     }
+}
+
+// Whether a and the group's next addresses, 64 in all with what lies between them, are seen at once to have no event.
+fn silent(set: &[u8], a: u16, step: u16) -> bool
+    requires { ⌜ (length (now set) ≡ 512) × (a < 4096) × (1 ≤ step) ⌝ }
+    ensures { λ r. ⌜ (r ≡ true → Silent (inSet (now (set .entry))) a step) ⌝ }
+{
+    if 8 < step {
+        return false;
+    }
+    if step <= a % 64 {
+        return false;
+    }
+    blank(set, (a / 64 * 8) as usize)
+}
+
+// Whether the eight bytes from a place on are zero.
+fn blank(set: &[u8], at: usize) -> bool
+    requires { ⌜ (length (now set) ≡ 512) × (at + 8 ≤ 512) ⌝ }
+    ensures { λ r. ⌜ (r ≡ true → Blank (now (set .entry)) at 8) ⌝ }
+{
+    let mut i = 0;
+    while i < 8 {
+        if set[at + i] != 0 {
+            return false;
+        }
+        i += 1;
+    }
+    true
 }
 
 // Whether device a has an event.

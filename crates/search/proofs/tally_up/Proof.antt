@@ -7,7 +7,7 @@ use native.Mathlib.Omega.{arith}
 use borrow.Author.Needs.{needs}
 use Rattle.groups.proofs.Follow.{group-is}
 use Rattle.search.specs.Searches.{inSet}
-use Rattle.search.proofs.Tallies.{Left, none-yet, narrow, passed, met, enough-met, all-met}
+use Rattle.search.proofs.Tallies.{Left, none-yet, narrow, passed, passed-64, met, enough-met, all-met}
 use Rattle.search.proofs.tally_up.Statement.{statement}
 use Rattle.search.proofs.tally_up.Tie as tie
 
@@ -22,50 +22,71 @@ loop-holds c =
     let b = c .before .before in
     none-yet (inSet (b .args .set .now)) (b .args .m) (b .args .c) (b .args .most) (c .bound .result) (group-is _ _ (b .pre .1)) (c .bound .ensures) (b .pre .2)
 
+silent-requires : tie.Need-silent-requires Inv-loop μ-loop
+silent-requires i κs =
+    let l = i .before .loop in
+    let s = i .before .before in
+    let b = s .before .before in
+    (b .pre .0, i .loop-test .taken, narrow (inSet (b .args .set .now)) (b .args .m) (b .args .c) (b .args .most) (s .bound .result) (group-is _ _ (b .pre .1)) (l .devices) (l .last) (l .a) (l .inv) .0)
+
+loop-again : tie.Need-loop-again Inv-loop μ-loop
+loop-again c =
+    let i = c .before .before in
+    let l = i .before .loop in
+    let s = i .before .before in
+    let b = s .before .before in
+    passed-64 (inSet (b .args .set .now)) (b .args .m) (b .args .c) (b .args .most) (s .bound .result) (group-is _ _ (b .pre .1)) (l .devices) (l .last) (l .a) (l .inv) (c .before .silent .ensures (c .if1 .taken))
+
 has-requires : tie.Need-has-requires Inv-loop μ-loop
-has-requires c κs = (c .before .before .before .before .pre .0, c .loop-test .taken)
+has-requires c κs =
+    let i = c .before .before in
+    (i .before .before .before .before .pre .0, i .loop-test .taken)
 
 add-devices : tie.Need-add-devices Inv-loop μ-loop
-add-devices c = omega (arith, c .before .before .before .loop .inv .below, c .before .before .before .before .before .before .fits .most)
+add-devices c =
+    let i = c .before .before .before .before in
+    omega (arith, i .before .loop .inv .below, i .before .before .before .before .fits .most)
 
 returns : tie.Need-returns Inv-loop μ-loop
 returns c =
     let h = c .before .before in
-    let l = h .before .before .loop in
-    let s = h .before .before .before in
+    let i = h .before .before .before in
+    let l = i .before .loop in
+    let s = i .before .before in
     let b = s .before .before in
     enough-met (inSet (b .args .set .now)) (b .args .m) (b .args .c) (b .args .most) (s .bound .result) (group-is _ _ (b .pre .1)) (l .devices) (l .last) (l .a) (l .inv)
-    (h .before .loop-test .taken) (sym (h .has .ensures) ∙ c .before .if1 .taken) (c .if2 .taken)
+    (i .loop-test .taken) (sym (h .has .ensures) ∙ c .before .if2 .taken) (c .if3 .taken)
 
-add-a : tie.Need-add-a Inv-loop μ-loop
-add-a c =
-    let s = c .before .before .before .before in
+add-a-2 : tie.Need-add-a-2 Inv-loop μ-loop
+add-a-2 c =
+    let i = c .before .before .before .before in
+    let l = i .before .loop in
+    let s = i .before .before in
     let b = s .before .before in
-    let l = c .before .before .before .loop in
     let n = narrow (inSet (b .args .set .now)) (b .args .m) (b .args .c) (b .args .most) (s .bound .result) (group-is _ _ (b .pre .1)) (l .devices) (l .last) (l .a) (l .inv) in
-    omega (arith, n, c .before .before .loop-test .taken)
+    omega (arith, n, i .loop-test .taken)
 
-loop-less : tie.Need-loop-less Inv-loop μ-loop
-loop-less c =
-    let s = c .before .before .before .before in
+loop-less-2 : tie.Need-loop-less-2 Inv-loop μ-loop
+loop-less-2 c =
+    let i = c .before .before .before .before in
+    let l = i .before .loop in
+    let s = i .before .before in
     let b = s .before .before in
-    let l = c .before .before .before .loop in
     let n = narrow (inSet (b .args .set .now)) (b .args .m) (b .args .c) (b .args .most) (s .bound .result) (group-is _ _ (b .pre .1)) (l .devices) (l .last) (l .a) (l .inv) in
-    omega (arith, n, c .before .before .loop-test .taken)
+    omega (arith, n, i .loop-test .taken)
 
-loop-again : tie.Need-loop-again Inv-loop μ-loop
-loop-again c =
+loop-again-2 : tie.Need-loop-again-2 Inv-loop μ-loop
+loop-again-2 c =
     let h = c .before in
-    let s = h .before .before .before in
+    let i = h .before .before .before in
+    let l = i .before .loop in
+    let s = i .before .before in
     let b = s .before .before in
-    let l = h .before .before .loop in
-    let S = inSet (b .args .set .now) in
-    let g = group-is _ _ (b .pre .1) in
-    let t = h .before .loop-test .taken in
+    let t = i .loop-test .taken in
     ⊎-elim
-    (λ w. rw (w .2, w .3) (met S (b .args .m) (b .args .c) (b .args .most) (s .bound .result) g (l .devices) (l .last) (l .a) (l .inv) t (sym (h .has .ensures) ∙ w .0 .taken) (w .1 .left)))
-    (λ w. rw (w .1, w .2) (passed S (b .args .m) (b .args .c) (b .args .most) (s .bound .result) g (l .devices) (l .last) (l .a) (l .inv) t (sym (h .has .ensures) ∙ w .0 .left)))
-    (c .if1 .came)
+    (λ w. rw (w .2, w .3) (met (inSet (b .args .set .now)) (b .args .m) (b .args .c) (b .args .most) (s .bound .result) (group-is _ _ (b .pre .1)) (l .devices) (l .last) (l .a) (l .inv) t (sym (h .has .ensures) ∙ w .0 .taken) (w .1 .left)))
+    (λ w. rw (w .1, w .2) (passed (inSet (b .args .set .now)) (b .args .m) (b .args .c) (b .args .most) (s .bound .result) (group-is _ _ (b .pre .1)) (l .devices) (l .last) (l .a) (l .inv) t (sym (h .has .ensures) ∙ w .0 .left)))
+    (c .if2 .came)
 
 returns-2 : tie.Need-returns-2 Inv-loop μ-loop
 returns-2 c =
@@ -82,10 +103,14 @@ tally-up-spec =
     μ-loop
     (λ c κs. search needs)
     loop-holds
+    silent-requires
+    (λ c. omega (arith, c .before .before .loop-test .taken))
+    (λ c. omega (arith, c .before .before .loop-test .taken))
+    loop-again
     has-requires
     add-devices
     returns
-    add-a
-    loop-less
-    loop-again
+    add-a-2
+    loop-less-2
+    loop-again-2
     returns-2)
