@@ -15,9 +15,9 @@ ghost use Rattle.mvb.specs.Lists.{checkAnswer, checkNumber};
 #[no_mangle]
 pub extern "C" fn mvb_list_check(list: &[u8], ms: &mut u16, gap: &mut u16, reserve: &mut u16) -> u32
     ensures answer { λ r. ⌜ toldCode r ≡ checkAnswer (now (list .entry)) ⌝ }
-    ensures period { λ r. ⌜ now (ms .exit) ≡ checkNumber (λ l. l .head .ms) (now (list .entry)) (now (ms .entry)) ⌝ }
-    ensures pause { λ r. ⌜ now (gap .exit) ≡ checkNumber (λ l. l .head .gap) (now (list .entry)) (now (gap .entry)) ⌝ }
-    ensures sporadic { λ r. ⌜ now (reserve .exit) ≡ checkNumber (λ l. l .head .reserve) (now (list .entry)) (now (reserve .entry)) ⌝ }
+    ensures basic_period { λ r. ⌜ now (ms .exit) ≡ checkNumber (λ l. l .head .ms) (now (list .entry)) (now (ms .entry)) ⌝ }
+    ensures telegram_gap { λ r. ⌜ now (gap .exit) ≡ checkNumber (λ l. l .head .gap) (now (list .entry)) (now (gap .entry)) ⌝ }
+    ensures sporadic_reserve { λ r. ⌜ now (reserve .exit) ≡ checkNumber (λ l. l .head .reserve) (now (list .entry)) (now (reserve .entry)) ⌝ }
 {
     match lists::list_check(list) {
         ListCheck::Accepted(head, words) => {
