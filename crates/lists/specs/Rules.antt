@@ -4,7 +4,7 @@ use Prim.Native.Nat.{ℕ, _/_, _%_}
 use mathlib.Core.List.{List, [], _∷_}
 use mathlib.Core.Bool.{Bool, true, false, not, _&&_, _||_}
 use lib.Dec.{ltb, eqb}
-use Rattle.lists.specs.Values.{sum}
+use Rattle.numbers.specs.Number.{sum}
 
 -- what a check says: nothing, or a refusal
 pub data Check : Type 0 where

@@ -10,9 +10,9 @@ use borrow.Author.Tests.{lt-ltb, ltb-true, eq-eqb, eqb-true}
 use lib.Dec.{ltb, eqb}
 use lib.ListN.{length, getD, take, length-append, List·getD-append}
 use lib.Seq.{getD-take, getD-at, length-take-le}
 use Rattle.lists.specs.Rules.{fcode, address, processData, listable, clash, clashes}
-use Rattle.lists.specs.Written.{All, Listable, Clash}
-use Rattle.lists.proofs.WasLaws.{Fresh}
+use Rattle.list_laws.specs.Written.{All, Listable, Clash}
+use Rattle.list_laws.proofs.WasLaws.{Fresh}
 
 and-both : (a b : Bool) → (a && b) ≡ true → (a ≡ true) × (b ≡ true)
 and-both true b e = (refl, e)

@@ -6,8 +6,9 @@ use mathlib.Core.Logic.{_⊎_}
 use mathlib.Core.List.{List, [], _∷_, _++_}
 use lib.ListN.{length, getD}
 use Rattle.numbers.specs.Written.{written}
-use Rattle.lists.specs.Values.{Cycle, PeriodicList, cyclesOf, periodsOf, wordsOf, sum}
+use Rattle.numbers.specs.Number.{sum}
+use Rattle.lists.specs.Values.{Cycle, PeriodicList, cyclesOf, periodsOf, wordsOf}
 use Rattle.lists.specs.Sends.{sends, takes}
 
 -- "a count 0 to 256 and that many words", then split numbers where there are any
 abbrev pub cycleNumbers : Cycle → List ℕ
