@@ -14,7 +14,7 @@ use Rattle.numbers.specs.Written.{bytesOf, written, Bytes}
 use Rattle.numbers.proofs.WrittenLaws.{was, read-back, written-append, bytes-drop}
 use Rattle.lists.specs.declared.Header.{Header}
 use Rattle.lists.specs.Values.{Cycle, PeriodicList, cyclesOf, wordsOf}
-use Rattle.lists.specs.Rules.{Check, right, wrong, unless, also, fcode, processData, listable, clashes, wordRule, splitRule, rules}
+use Rattle.lists.specs.Rules.{Check, right, wrong, unless, also, processData, listable, clashes, wordRule, splitRule, rules}
 use Rattle.lists.specs.Reading.{Read, denied, took, then, when, orFive, numberIn, within, afterMs, headerIn, wordsIn, splitsIn, summedIn, splitIn, bodyIn, cycleIn, cyclesIn}
 use Rattle.lists.specs.Inside.{GoodHead}
 use Rattle.list_laws.specs.Written.{cycleNumbers, cyclesNumbers, All, Split}

@@ -43,6 +43,7 @@ module _ (s vs t : List ℕ) (at : ℕ) (m : Most vs) (here : drop at s ≡ writ
   read-there out out' count next e d =
       let r : run (length out) (drop at s) ≡ record { values = vs; used = length (written vs) } = the-run (length out) e in
       let l : length out ≤ length vs = omega arith in
-      let z : drop (length vs) out ≡ [] = drop-of-length-le out l in
-      (d .2 ∙ ap (λ (x : Numbers). x .values ++ drop (length (x .values)) out) r ∙ ap (λ (x : List ℕ). vs ++ x) z ∙ append-nil vs,
-      after next (run (length out) (drop at s) .used) (d .1) (ap (λ (x : Numbers). x .used) r))
+      let z : drop (length vs) out ≡ [] = drop-of-length-le out l in (
+        d .2 ∙ ap (λ (x : Numbers). x .values ++ drop (length (x .values)) out) r ∙ ap (λ (x : List ℕ). vs ++ x) z ∙ append-nil vs,
+        after next (run (length out) (drop at s) .used) (d .1) (ap (λ (x : Numbers). x .used) r),
+      )
