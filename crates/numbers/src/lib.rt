@@ -133,19 +133,19 @@ pub struct Summed {
 pub fn sum_numbers(s: &[u8], at: usize, k: u16) -> Summed
     ensures { λ r. ⌜ (r .total ≡ sum (run k (drop at (now (s .entry))) .values)) × (r .next ≡ at + run k (drop at (now (s .entry))) .used) ⌝ }
 {
-    let mut p = at;
+    let mut place = at;
     let mut total: usize = 0;
     let mut i: u16 = 0;
     while i < k {
-        let r = read_number(s, p);
+        let r = read_number(s, place);
         match r {
-            Number::Refused(_) => return Summed { total, next: p },
+            Number::Refused(_) => return Summed { total, next: place },
             Number::Value(v, next) => {
                 total += v as usize;
-                p = next;
+                place = next;
             }
         }
         i += 1;
     }
-    Summed { total, next: p }
+    Summed { total, next: place }
 }

@@ -11,10 +11,10 @@ use Rattle.numbers.proofs.sum_numbers.Statement.{statement}
 use Rattle.numbers.proofs.sum_numbers.Tie as tie
 
 abbrev Inv-loop : tie.InvT-loop
-Inv-loop s at k p₀ total₀ i₀ p total i = Adding s at k p total i
+Inv-loop s at k place₀ total₀ i₀ place total i = Adding s at k place total i
 
 abbrev μ-loop : tie.MeasureT-loop
-μ-loop s at k p₀ total₀ i₀ p total i = k - i
+μ-loop s at k place₀ total₀ i₀ place total i = k - i
 
 loop-holds : tie.Need-loop-holds Inv-loop μ-loop
 loop-holds c = adding-start _ _ _ (omega arith)
