@@ -5,24 +5,19 @@ use mathlib.Core.Path.{_≡_, refl, ap, sym, _∙_, subst}
 use mathlib.Core.List.{List, [], _∷_, _++_, append-assoc, append-nil}
 use mathlib.Core.Bool.{Bool, true, false}
 use native.Mathlib.Omega.{arith}
-use lib.ListN.{length, getD, take, drop, length-append}
+use lib.ListN.{length, drop, length-append}
 use lib.Pow.{pow-pos, pow-mono}
-use lib.Seq.{take-at, drop-append-seam, drop-drop}
 use Rattle.numbers.specs.Written.{written}
 use Rattle.numbers.proofs.WrittenLaws.{written-append}
-use Rattle.lists.specs.declared.CycleAt.{CycleAt}
-use Rattle.lists.specs.Values.{Cycle, PeriodicList, cyclesOf, sum}
+use Rattle.lists.specs.Values.{Cycle, PeriodicList, cyclesOf}
 use Rattle.lists.specs.Sends.{subcycles}
-use Rattle.lists.proofs.PlainLaws.{CycleRead}
-use Rattle.lists.specs.Written.{cycleNumbers, cyclesNumbers, file, CycleObeys, CyclesObey, Obeys}
+use Rattle.list_laws.specs.Written.{cycleNumbers, cyclesNumbers, file, CycleObeys, CyclesObey, Obeys}
 use Rattle.lists.proofs.ListLaws.{cycles-most}
-use Rattle.lists.proofs.Acceptance.{one-list}
-use Rattle.lists.proofs.PlainLaws.{cycle-there}
-use Rattle.periods.specs.Inside.{InSubcycle, IsList}
+use Rattle.list_laws.proofs.Acceptance.{one-list}
+use Rattle.periods.specs.Inside.{CycleHere, IsList}
 use Rattle.periods.proofs.PeriodLaws.{obey-right}
-use Rattle.periods.proofs.SubcycleLaws.{in-subcycle}
 use Rattle.list_text.specs.Text.{subcycleLines, cycleLines}
-use Rattle.list_text.specs.Inside.{Wrote, Fits, CyclesHere, CyclesWrote}
+use Rattle.list_text.specs.Inside.{Wrote, LinesPut, linesOf, LinesFit, CyclesHere, CyclesWrote}
 use Rattle.list_text.proofs.WroteLaws.{fits-part, and-then, as-bytes}
 use Rattle.list_text.proofs.LinesLaws.{wrote-none}
 
@@ -33,14 +28,12 @@ cycles-append n (c ∷ cs) ds =
     ap (λ (l : List ℕ). subcycleLines (2 ^ n) 0 (subcycles (c .words) (c .splits)) ++ l) (cycles-append (suc n) cs ds ∙ ap (λ (k : ℕ). cycleLines (suc n) cs ++ cycleLines k ds) e)
     ∙ sym (append-assoc (subcycleLines (2 ^ n) 0 (subcycles (c .words) (c .splits))) (cycleLines (suc n) cs) (cycleLines (n + suc (length cs)) ds))
 
-pub record Inv (write : Bool) (s : List ℕ) (ms at cycles : ℕ) (out₀ out words splits : List ℕ) (p q n size : ℕ) : Type 0 where
+pub record Inv (write : Bool) (s : List ℕ) (ms at cycles : ℕ) (out₀ out : List ℕ) (p q n size : ℕ) : Type 0 where
   pub here : CyclesHere s ms write at out₀
   pub long : length out ≡ length out₀
   pub all-cycles : cycles ≡ cyclesOf ms
   pub below : n ≤ cycles
   pub power : size ≡ 2 ^ n
-  pub words-long : length words ≡ 256
-  pub splits-long : length splits ≡ 1024
   pub done : List Cycle
   pub todo : List Cycle
   pub both : here .known .l .cycles ≡ done ++ todo
@@ -49,17 +42,14 @@ pub record Inv (write : Bool) (s : List ℕ) (ms at cycles : ℕ) (out₀ out wo
   pub wrote : Wrote write at (cycleLines 0 done) out₀ out q
 
 module _ (write : Bool) (s : List ℕ) (ms at cycles : ℕ) (out₀ : List ℕ) where
-  pub start : (k : CyclesHere s ms write at out₀) → cycles ≡ cyclesOf ms → (words splits : List ℕ) → length words ≡ 256 → length splits ≡ 1024
-      → (p : ℕ) → drop p s ≡ written (cyclesNumbers (k .known .l .cycles)) → Inv write s ms at cycles out₀ out₀ words splits p at 0 1
-  start k c words splits lw ls p b =
+  pub start : (k : CyclesHere s ms write at out₀) → cycles ≡ cyclesOf ms → (p : ℕ) → drop p s ≡ written (cyclesNumbers (k .known .l .cycles)) → Inv write s ms at cycles out₀ out₀ p at 0 1
+  start k c p b =
       record {
         here = k;
         long = refl;
         all-cycles = c;
         below = omega arith;
         power = refl;
-        words-long = lw;
-        splits-long = ls;
         done = [];
         todo = k .known .l .cycles;
         both = refl;
@@ -68,7 +58,7 @@ module _ (write : Bool) (s : List ℕ) (ms at cycles : ℕ) (out₀ : List ℕ) 
         wrote = wrote-none write at out₀;
       }
 
-  module _ (out words splits : List ℕ) (p q n size : ℕ) (inv : Inv write s ms at cycles out₀ out words splits p q n size) where
+  module _ (out : List ℕ) (p q n size : ℕ) (inv : Inv write s ms at cycles out₀ out p q n size) where
     l : PeriodicList
     l = inv .here .known .l
 
@@ -123,7 +113,7 @@ module _ (write : Bool) (s : List ℕ) (ms at cycles : ℕ) (out₀ : List ℕ) 
       bytes-here = inv .bytes ∙ ap (λ (x : List Cycle). written (cyclesNumbers x)) (next .is) ∙ written-append (cycleNumbers (next .c)) (cyclesNumbers (next .later))
 
       lines : List ℕ
-      lines = subcycleLines (2 ^ n) 0 (subcycles (c .words) (c .splits))
+      lines = linesOf (2 ^ n) c
 
       all-lines : cycleLines 0 (l .cycles) ≡ cycleLines 0 (inv .done) ++ (lines ++ cycleLines (suc n) later)
       unfolding l c later lines
@@ -132,73 +122,40 @@ module _ (write : Bool) (s : List ℕ) (ms at cycles : ℕ) (out₀ : List ℕ) 
           ap (cycleLines 0) (inv .both ∙ ap (λ (x : List Cycle). inv .done ++ x) (next .is)) ∙ cycles-append 0 (inv .done) (next .c ∷ next .later)
           ∙ ap (λ (m : ℕ). cycleLines 0 (inv .done) ++ cycleLines m (next .c ∷ next .later)) z
 
-      lines-fit : Fits write q (length lines) out
+      pub cycle-here : CycleHere s p size
+      unfolding c later
+      cycle-here = record { n = n; c = next .c; rest = written (cyclesNumbers (next .later)); small = small-n; power = inv .power; obeys = next .obeys; bytes = bytes-here }
+
+      size-lines : linesOf size (cycle-here .c) ≡ lines
+      unfolding c cycle-here lines
+      size-lines = ap (λ (x : ℕ). linesOf x (next .c)) (inv .power)
+
+      pub lines-fit : LinesFit write q (cycle-here .c) size out
       unfolding l
       lines-fit =
-          fits-part write at (length (cycleLines 0 (l .cycles))) out₀ (inv .here .fits) q (length (cycleLines 0 (inv .done))) (length lines) out (inv .wrote .next)
-          (omega (arith, ap length all-lines, length-append (cycleLines 0 (inv .done)) (lines ++ cycleLines (suc n) later), length-append lines (cycleLines (suc n) later))) (inv .long)
+          fits-part write at (length (cycleLines 0 (l .cycles))) out₀ (inv .here .fits) q (length (cycleLines 0 (inv .done))) (length (linesOf size (cycle-here .c))) out (inv .wrote .next)
+          (omega (arith, ap length size-lines, ap length all-lines, length-append (cycleLines 0 (inv .done)) (lines ++ cycleLines (suc n) later), length-append lines (cycleLines (suc n) later))) (inv .long)
 
-      module _ (r : CycleAt) (words' splits' : List ℕ) (d : CycleRead n (drop p s) p r words words' splits splits') where
-        there : (r .words ≡ length (c .words)) × (r .splits ≡ length (c .splits)) × (r .next ≡ p + length (written (cycleNumbers c)))
-            × (words' ≡ c .words ++ drop (length (c .words)) words) × (splits' ≡ c .splits ++ drop (length (c .splits)) splits)
-        unfolding c
-        there =
-            cycle-there n (next .c) (next .obeys) small-n (written (cyclesNumbers later)) p r words words' splits splits' (inv .words-long) (inv .splits-long)
-            (subst (λ (x : List ℕ). CycleRead n x p r words words' splits splits') bytes-here d)
-
-        pub words-room : r .words ≤ length words'
-        words-room = omega (arith, there .0, ap length (there .3), length-append (c .words) (drop (length (c .words)) words))
-
-        pub splits-room : r .splits ≤ length splits'
-        splits-room = omega (arith, there .1, ap length (there .4), length-append (c .splits) (drop (length (c .splits)) splits))
-
-        the-words : take (r .words) words' ≡ c .words
-        the-words = ap (take (r .words)) (there .3) ∙ take-at (c .words) (drop (length (c .words)) words) (r .words) (sym (there .0))
-
-        the-splits : take (r .splits) splits' ≡ c .splits
-        the-splits = ap (take (r .splits)) (there .4) ∙ take-at (c .splits) (drop (length (c .splits)) splits) (r .splits) (sym (there .1))
-
-        part-lines : subcycleLines size 0 (subcycles (take (r .words) words') (take (r .splits) splits')) ≡ lines
-        unfolding lines
-        part-lines =
-            ap (λ (x : ℕ). subcycleLines x 0 (subcycles (take (r .words) words') (take (r .splits) splits'))) (inv .power)
-            ∙ ap (λ (x : List ℕ). subcycleLines (2 ^ n) 0 (subcycles x (take (r .splits) splits'))) the-words
-            ∙ ap (λ (x : List ℕ). subcycleLines (2 ^ n) 0 (subcycles (c .words) x)) the-splits
-
-        pub asked : (size < 10000) × (length (take (r .splits) splits') ≤ 1024) × (sum (take (r .splits) splits') ≤ length (take (r .words) words'))
-            × Fits write q (length (subcycleLines size 0 (subcycles (take (r .words) words') (take (r .splits) splits')))) out
-        unfolding c
-        asked =
-            let i = in-subcycle n (next .c) 0 small-n (next .obeys) in (
-              omega (arith, size-small),
-              omega (arith, i .few, ap length the-splits),
-              omega (arith, i .within, ap sum the-splits, ap length the-words),
-              subst (λ (x : List ℕ). Fits write q (length x) out) (sym part-lines) lines-fit,
-            )
-
-        pub more : (out' : List ℕ) (q' : ℕ) → Wrote write q (subcycleLines size 0 (subcycles (take (r .words) words') (take (r .splits) splits'))) out out' q' → length out' ≡ length out
-            → length words' ≡ length words → length splits' ≡ length splits → Inv write s ms at cycles out₀ out' words' splits' (r .next) q' (n + 1) (size + size)
-        unfolding l c later lines
-        more out' q' w ko lw ls =
-            let z : 0 + length (inv .done) ≡ n = omega (arith, inv .many) in
-            let x : Wrote write q lines out out' q' = as-bytes write q (subcycleLines size 0 (subcycles (take (r .words) words') (take (r .splits) splits'))) lines out out' q' part-lines w in
-            let y : Wrote write at (cycleLines 0 (inv .done) ++ lines) out₀ out' q' = and-then write at (cycleLines 0 (inv .done)) lines out₀ out out' q q' (length (cycleLines 0 (l .cycles))) (inv .here .fits) (inv .wrote) x in
-            let e : cycleLines 0 (inv .done) ++ lines ≡ cycleLines 0 (inv .done ++ next .c ∷ []) =
-            sym (cycles-append 0 (inv .done) (next .c ∷ []) ∙ ap (λ (m : ℕ). cycleLines 0 (inv .done) ++ cycleLines m (next .c ∷ [])) z
-            ∙ ap (λ (u : List ℕ). cycleLines 0 (inv .done) ++ u) (append-nil lines)) in
-            record {
-              here = inv .here;
-              long = ko ∙ inv .long;
-              all-cycles = inv .all-cycles;
-              below = omega arith;
-              power = let f : n + 1 ≡ suc n = omega arith in omega (arith, inv .power, ap (λ (x : ℕ). 2 ^ x) f);
-              words-long = lw ∙ inv .words-long;
-              splits-long = ls ∙ inv .splits-long;
-              done = inv .done ++ next .c ∷ [];
-              todo = next .later;
-              both = inv .both ∙ ap (λ (x : List Cycle). inv .done ++ x) (next .is) ∙ sym (append-assoc (inv .done) (next .c ∷ []) (next .later));
-              many = omega (arith, length-append (inv .done) (next .c ∷ []), inv .many);
-              bytes = ap (λ (x : ℕ). drop x s) (there .2) ∙ sym (drop-drop (length (written (cycleNumbers (next .c)))) p s) ∙ ap (drop (length (written (cycleNumbers (next .c))))) bytes-here
-                  ∙ drop-append-seam (written (cycleNumbers (next .c))) (written (cyclesNumbers (next .later)));
-              wrote = as-bytes write at (cycleLines 0 (inv .done) ++ lines) (cycleLines 0 (inv .done ++ next .c ∷ [])) out₀ out' q' e y;
-            }
+      pub more : (out' : List ℕ) (q' p' : ℕ) → LinesPut write s q (linesOf size (cycle-here .c)) (cycle-here .rest) out out' q' p' → length out' ≡ length out
+          → Inv write s ms at cycles out₀ out' p' q' (n + 1) (size + size)
+      unfolding l c later lines cycle-here
+      more out' q' p' w ko =
+          let z : 0 + length (inv .done) ≡ n = omega (arith, inv .many) in
+          let x : Wrote write q lines out out' q' = as-bytes write q (linesOf size (next .c)) lines out out' q' size-lines (w .0) in
+          let y : Wrote write at (cycleLines 0 (inv .done) ++ lines) out₀ out' q' = and-then write at (cycleLines 0 (inv .done)) lines out₀ out out' q q' (length (cycleLines 0 (l .cycles))) (inv .here .fits) (inv .wrote) x in
+          let e : cycleLines 0 (inv .done) ++ lines ≡ cycleLines 0 (inv .done ++ next .c ∷ []) =
+          sym (cycles-append 0 (inv .done) (next .c ∷ []) ∙ ap (λ (m : ℕ). cycleLines 0 (inv .done) ++ cycleLines m (next .c ∷ [])) z
+          ∙ ap (λ (u : List ℕ). cycleLines 0 (inv .done) ++ u) (append-nil lines)) in
+          record {
+            here = inv .here;
+            long = ko ∙ inv .long;
+            all-cycles = inv .all-cycles;
+            below = omega arith;
+            power = let f : n + 1 ≡ suc n = omega arith in omega (arith, inv .power, ap (λ (x : ℕ). 2 ^ x) f);
+            done = inv .done ++ next .c ∷ [];
+            todo = next .later;
+            both = inv .both ∙ ap (λ (x : List Cycle). inv .done ++ x) (next .is) ∙ sym (append-assoc (inv .done) (next .c ∷ []) (next .later));
+            many = omega (arith, length-append (inv .done) (next .c ∷ []), inv .many);
+            bytes = w .1;
+            wrote = as-bytes write at (cycleLines 0 (inv .done) ++ lines) (cycleLines 0 (inv .done ++ next .c ∷ [])) out₀ out' q' e y;
+          }

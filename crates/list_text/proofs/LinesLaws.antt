@@ -7,11 +7,19 @@ use mathlib.Core.Bool.{Bool, true, false}
 use native.Mathlib.Numerals.{add-one}
 use native.Mathlib.Omega.{arith}
 use lib.ListN.{length, getD, take, drop, length-append, length-take, length-drop, take-append-drop}
-use lib.Seq.{take-suc, take-all, drop-drop, length-take-le, drop-cons}
-use Rattle.lists.specs.Values.{sum}
+use lib.Pow.{pow-pos}
+use lib.Seq.{take-suc, take-all, drop-length, drop-drop, length-take-le, drop-cons}
+use Rattle.numbers.specs.Number.{sum}
+use Rattle.numbers.specs.Written.{written, Most}
+use Rattle.numbers.proofs.RunLaws.{Added}
+use Rattle.numbers.proofs.ThereLaws.{most-left, most-right, cut-written, sum-there}
+use Rattle.lists.specs.Values.{Cycle}
 use Rattle.lists.specs.Sends.{cutBy, subcycles}
+use Rattle.periods.specs.Inside.{CycleHere, SplitHere}
+use Rattle.periods.proofs.HereLaws.{shape, splits-most, all-words-most, size-small, after-words, count-there, no-split, only-words, no-word, nothing-here}
+use Rattle.list_laws.proofs.Acceptance.{words-most}
 use Rattle.list_text.specs.Text.{wordLine, wordLines, subcycleLines}
-use Rattle.list_text.specs.Inside.{wroteIf, Wrote, RoomIf, Fits}
+use Rattle.list_text.specs.Inside.{wroteIf, Wrote, RoomIf, Fits, WordsHere, LinesPut, linesOf, LinesFit}
 use Rattle.list_text.proofs.WroteLaws.{fits-part, and-then, as-bytes}
 
 nothing-written : (write : Bool) (at : ℕ) (out : List ℕ) → out ≡ wroteIf write at [] out
@@ -26,49 +34,71 @@ lines-append : (cycle sub : ℕ) (a b : List ℕ) → wordLines cycle sub (a ++ 
 lines-append cycle sub [] b = refl
 lines-append cycle sub (w ∷ a) b = ap (λ (l : List ℕ). wordLine cycle sub w ++ l) (lines-append cycle sub a b) ∙ sym (append-assoc (wordLine cycle sub w) (wordLines cycle sub a) (wordLines cycle sub b))
 
-pub record Lines (write : Bool) (cycle sub at : ℕ) (words out₀ out : List ℕ) (p i : ℕ) : Type 0 where
-  pub below : i ≤ length words
-  pub small : (cycle < 10000) × (sub < 10000)
-  pub fits : Fits write at (length (wordLines cycle sub words)) out₀
+-- the next of some numbers that stand at a place
+next-there : (s vs t : List ℕ) (p i : ℕ) → Most vs → i < length vs → drop p s ≡ written (drop i vs) ++ t → (total next : ℕ) → Added s p 1 total next
+    → (total ≡ getD vs i 0) × (drop next s ≡ written (drop (i + 1) vs) ++ t) × (total ≤ 65535)
+next-there s vs t p i m h b total next a =
+    let v : ℕ = getD vs i 0 in
+    let d : drop i vs ≡ v ∷ drop (suc i) vs = drop-cons vs i 0 h in
+    let q : Most (v ∷ drop (suc i) vs) = subst Most d (most-right (take i vs) (drop i vs) (subst Most (sym (take-append-drop i vs)) m)) in
+    let e : drop p s ≡ written (v ∷ []) ++ (written (drop (suc i) vs) ++ t) = b ∙ ap (λ (l : List ℕ). written l ++ t) d ∙ cut-written 1 (v ∷ drop (suc i) vs) t in
+    let x = sum-there s (v ∷ []) (written (drop (suc i) vs) ++ t) p (q .0, tt) e 1 total next refl a in
+    (omega (arith, x .0), x .1 ∙ ap (λ (n : ℕ). written (drop n vs) ++ t) (sym (add-one i)), omega (arith, x .0, q .0))
+
+pub record Lines (s : List ℕ) (at many cycle sub : ℕ) (write : Bool) (to : ℕ) (out₀ out : List ℕ) (p q i : ℕ) (h : WordsHere s at many cycle sub write to out₀) : Type 0 where
+  pub below : i ≤ many
   pub long : length out ≡ length out₀
-  pub done : Wrote write at (wordLines cycle sub (take i words)) out₀ out p
+  pub bytes : drop p s ≡ written (drop i (h .words)) ++ h .rest
+  pub done : Wrote write to (wordLines cycle sub (take i (h .words))) out₀ out q
 
-module _ (write : Bool) (cycle sub at : ℕ) (words out₀ : List ℕ) where
-  pub lines-start : (cycle < 10000) × (sub < 10000) → Fits write at (length (wordLines cycle sub words)) out₀ → Lines write cycle sub at words out₀ out₀ at 0
-  lines-start s f = record { below = omega arith; small = s; fits = f; long = refl; done = wrote-none write at out₀ }
+module _ (s : List ℕ) (at many cycle sub : ℕ) (write : Bool) (to : ℕ) (out₀ : List ℕ) (h : WordsHere s at many cycle sub write to out₀) where
+  pub lines-start : Lines s at many cycle sub write to out₀ out₀ at to 0 h
+  lines-start = record { below = omega arith; long = refl; bytes = h .bytes; done = wrote-none write to out₀ }
 
-  module _ (out : List ℕ) (p i : ℕ) (inv : Lines write cycle sub at words out₀ out p i) where
-    pub lines-end : length words ≤ i → Wrote write at (wordLines cycle sub words) out₀ out p
-    lines-end h = as-bytes write at (wordLines cycle sub (take i words)) (wordLines cycle sub words) out₀ out p (ap (wordLines cycle sub) (take-all i words h)) (inv .done)
+  module _ (out : List ℕ) (p q i : ℕ) (inv : Lines s at many cycle sub write to out₀ out p q i h) where
+    pub lines-end : many ≤ i → LinesPut write s to (wordLines cycle sub (h .words)) (h .rest) out₀ out q p
+    lines-end l =
+        let e : length (h .words) ≤ i = omega (arith, h .long) in
+        let n : i ≡ length (h .words) = omega (arith, h .long, inv .below) in (
+          as-bytes write to (wordLines cycle sub (take i (h .words))) (wordLines cycle sub (h .words)) out₀ out q (ap (wordLines cycle sub) (take-all i (h .words) e)) (inv .done),
+          inv .bytes ∙ ap (λ (x : ℕ). written (drop x (h .words)) ++ h .rest) n ∙ ap (λ (x : List ℕ). written x ++ h .rest) (drop-length (h .words)),
+        )
 
-    module _ (h : i < length words) where
-      one-more : wordLines cycle sub (take (i + 1) words) ≡ wordLines cycle sub (take i words) ++ wordLine cycle sub (getD words i 0)
+    module _ (l : i < many) (w next : ℕ) (a : Added s p 1 w next) where
+      here : (w ≡ getD (h .words) i 0) × (drop next s ≡ written (drop (i + 1) (h .words)) ++ h .rest) × (w ≤ 65535)
+      here = next-there s (h .words) (h .rest) p i (h .most) (omega (arith, h .long)) (inv .bytes) w next a
+
+      pub word-small : w ≤ 65535
+      word-small = here .2
+
+      one-more : wordLines cycle sub (take (i + 1) (h .words)) ≡ wordLines cycle sub (take i (h .words)) ++ wordLine cycle sub w
       one-more =
-          ap (λ (k : ℕ). wordLines cycle sub (take k words)) (add-one i) ∙ ap (wordLines cycle sub) (take-suc words i 0 h) ∙ lines-append cycle sub (take i words) (getD words i 0 ∷ [])
-          ∙ ap (λ (l : List ℕ). wordLines cycle sub (take i words) ++ l) (append-nil (wordLine cycle sub (getD words i 0)))
+          let e : i < length (h .words) = omega (arith, h .long) in
+          ap (λ (k : ℕ). wordLines cycle sub (take k (h .words))) (add-one i) ∙ ap (wordLines cycle sub) (take-suc (h .words) i 0 e)
+          ∙ ap (λ (k : ℕ). wordLines cycle sub (take i (h .words) ++ k ∷ [])) (sym (here .0)) ∙ lines-append cycle sub (take i (h .words)) (w ∷ [])
+          ∙ ap (λ (x : List ℕ). wordLines cycle sub (take i (h .words)) ++ x) (append-nil (wordLine cycle sub w))
 
-      within : length (wordLines cycle sub (take i words)) + length (wordLine cycle sub (getD words i 0)) ≤ length (wordLines cycle sub words)
+      within : length (wordLines cycle sub (take i (h .words))) + length (wordLine cycle sub w) ≤ length (wordLines cycle sub (h .words))
       within =
           omega (
             arith,
             ap length one-more,
-            length-append (wordLines cycle sub (take i words)) (wordLine cycle sub (getD words i 0)),
-            ap length (ap (wordLines cycle sub) (sym (take-append-drop (i + 1) words)) ∙ lines-append cycle sub (take (i + 1) words) (drop (i + 1) words)),
-            length-append (wordLines cycle sub (take (i + 1) words)) (wordLines cycle sub (drop (i + 1) words)),
+            length-append (wordLines cycle sub (take i (h .words))) (wordLine cycle sub w),
+            ap length (ap (wordLines cycle sub) (sym (take-append-drop (i + 1) (h .words))) ∙ lines-append cycle sub (take (i + 1) (h .words)) (drop (i + 1) (h .words))),
+            length-append (wordLines cycle sub (take (i + 1) (h .words))) (wordLines cycle sub (drop (i + 1) (h .words))),
           )
 
-      pub line-fits : Fits write p (length (wordLine cycle sub (getD words i 0))) out
-      line-fits = fits-part write at (length (wordLines cycle sub words)) out₀ (inv .fits) p (length (wordLines cycle sub (take i words))) (length (wordLine cycle sub (getD words i 0))) out (inv .done .next) within (inv .long)
+      pub line-fits : Fits write q (length (wordLine cycle sub w)) out
+      line-fits = fits-part write to (length (wordLines cycle sub (h .words))) out₀ (h .fits) q (length (wordLines cycle sub (take i (h .words)))) (length (wordLine cycle sub w)) out (inv .done .next) within (inv .long)
 
-      pub lines-more : (out' : List ℕ) (r : ℕ) → Wrote write p (wordLine cycle sub (getD words i 0)) out out' r → length out' ≡ length out → Lines write cycle sub at words out₀ out' r (i + 1)
-      lines-more out' r w k =
+      pub lines-more : (out' : List ℕ) (r : ℕ) → Wrote write q (wordLine cycle sub w) out out' r → length out' ≡ length out → Lines s at many cycle sub write to out₀ out' next r (i + 1) h
+      lines-more out' r x k =
           record {
             below = omega arith;
-            small = inv .small;
-            fits = inv .fits;
             long = k ∙ inv .long;
-            done = as-bytes write at (wordLines cycle sub (take i words) ++ wordLine cycle sub (getD words i 0)) (wordLines cycle sub (take (i + 1) words)) out₀ out' r (sym one-more)
-                (and-then write at (wordLines cycle sub (take i words)) (wordLine cycle sub (getD words i 0)) out₀ out out' p r (length (wordLines cycle sub words)) (inv .fits) (inv .done) w);
+            bytes = here .1;
+            done = as-bytes write to (wordLines cycle sub (take i (h .words)) ++ wordLine cycle sub w) (wordLines cycle sub (take (i + 1) (h .words))) out₀ out' r (sym one-more)
+                (and-then write to (wordLines cycle sub (take i (h .words))) (wordLine cycle sub w) out₀ out out' q r (length (wordLines cycle sub (h .words))) (h .fits) (inv .done) x);
           }
 
 -- ---- the Subcycles of a cycle
@@ -100,89 +130,157 @@ sum-le [] (suc i) = omega arith
 sum-le (z ∷ zs) zero = omega arith
 sum-le (z ∷ zs) (suc i) = omega (arith, sum-le zs i)
 
-pub whole-cycle : (ws zs : List ℕ) → length zs ≡ 0 → (cycle : ℕ) → wordLines cycle 0 ws ≡ subcycleLines cycle 0 (subcycles ws zs)
-whole-cycle ws [] e cycle = sym (append-nil (wordLines cycle 0 ws))
-whole-cycle ws (z ∷ zs) e cycle = absurd (omega arith)
-
-pub whole-fits : (write : Bool) (cycle at : ℕ) (ws zs out : List ℕ) → length zs ≡ 0 → Fits write at (length (subcycleLines cycle 0 (subcycles ws zs))) out → Fits write at (length (wordLines cycle 0 ws)) out
-whole-fits write cycle at ws zs out e f = subst (λ (x : List ℕ). Fits write at (length x) out) (sym (whole-cycle ws zs e cycle)) f
-
-pub cut-cycle : (ws zs : List ℕ) → (length zs ≡ 0 → ⊥) → subcycles ws zs ≡ cutBy ws zs
+cut-cycle : (ws zs : List ℕ) → (length zs ≡ 0 → ⊥) → subcycles ws zs ≡ cutBy ws zs
 cut-cycle ws [] h = absurd (h refl)
 cut-cycle ws (z ∷ zs) h = refl
 
-pub record Subs (write : Bool) (cycle at : ℕ) (ws zs out₀ out : List ℕ) (p from i : ℕ) : Type 0 where
-  pub below : i ≤ length zs
-  pub small : cycle < 10000
-  pub few : length zs ≤ 1024
-  pub within : sum zs ≤ length ws
-  pub fits : Fits write at (length (subcycleLines cycle 0 (cutBy ws zs))) out₀
+pub record Subs (s : List ℕ) (at count size : ℕ) (write : Bool) (to : ℕ) (out₀ out : List ℕ) (p w q i : ℕ) (h : SplitHere s at count size) : Type 0 where
+  pub below : i ≤ size
   pub long : length out ≡ length out₀
-  pub place : from ≡ sum (take i zs)
-  pub done : Wrote write at (subcycleLines cycle 0 (cutBy ws (take i zs))) out₀ out p
+  pub splits-at : drop p s ≡ written (drop i (h .c .splits)) ++ h .rest
+  pub words-at : drop w s ≡ written (drop (sum (take i (h .c .splits))) (h .c .words)) ++ (written (h .c .splits) ++ h .rest)
+  pub done : Wrote write to (subcycleLines size 0 (cutBy (h .c .words) (take i (h .c .splits)))) out₀ out q
 
-module _ (write : Bool) (cycle at : ℕ) (ws zs out₀ : List ℕ) where
-  pub subs-start : cycle < 10000 → length zs ≤ 1024 → sum zs ≤ length ws → (length zs ≡ 0 → ⊥) → Fits write at (length (subcycleLines cycle 0 (subcycles ws zs))) out₀ → Subs write cycle at ws zs out₀ out₀ at 0 0
-  subs-start s l w n f =
-      record { below = omega arith; small = s; few = l; within = w; fits = subst (λ (x : List (List ℕ)). Fits write at (length (subcycleLines cycle 0 x)) out₀) (cut-cycle ws zs n) f; long = refl; place = refl; done = wrote-none write at out₀ }
+module _ (s : List ℕ) (at count size : ℕ) (write : Bool) (to : ℕ) (out₀ : List ℕ) (h : SplitHere s at count size) (f : LinesFit write to (h .c) size out₀) where
+  ws : List ℕ
+  ws = h .c .words
 
-  module _ (out : List ℕ) (p from i : ℕ) (inv : Subs write cycle at ws zs out₀ out p from i) where
-    pub subs-end : length zs ≤ i → (length zs ≡ 0 → ⊥) → Wrote write at (subcycleLines cycle 0 (subcycles ws zs)) out₀ out p
-    subs-end h n =
-        as-bytes write at (subcycleLines cycle 0 (cutBy ws (take i zs))) (subcycleLines cycle 0 (subcycles ws zs)) out₀ out p
-        (ap (λ (x : List ℕ). subcycleLines cycle 0 (cutBy ws x)) (take-all i zs h) ∙ ap (subcycleLines cycle 0) (sym (cut-cycle ws zs n))) (inv .done)
+  zs : List ℕ
+  zs = h .c .splits
 
-    module _ (h : i < length zs) (many : ℕ) (m : many ≡ getD zs i 0) where
-      pub part-fits : from + many ≤ length ws
-      part-fits = omega (arith, inv .place, inv .within, sum-take zs i h, sum-le zs (i + 1))
+  many-splits : length zs ≡ size
+  unfolding zs
+  many-splits = shape s at count size h .0
 
-      pub sub-small : i < 10000
-      sub-small = omega (arith, inv .few)
+  is-cut : linesOf size (h .c) ≡ subcycleLines size 0 (cutBy ws zs)
+  unfolding ws zs
+  is-cut = ap (subcycleLines size 0) (cut-cycle ws zs (λ e. omega (arith, many-splits, h .power, pow-pos (h .n))))
 
-      part-is : take (from + many - from) (drop from ws) ≡ take (getD zs i 0) (drop (sum (take i zs)) ws)
-      part-is =
-          let e : from + many - from ≡ getD zs i 0 = omega arith in
-          ap (λ (k : ℕ). take k (drop from ws)) e ∙ ap (λ (k : ℕ). take (getD zs i 0) (drop k ws)) (inv .place)
+  all-fit : Fits write to (length (subcycleLines size 0 (cutBy ws zs))) out₀
+  all-fit = subst (λ (x : List ℕ). Fits write to (length x) out₀) is-cut f
 
-      next-part : subcycleLines cycle 0 (cutBy ws (take (i + 1) zs)) ≡ subcycleLines cycle 0 (cutBy ws (take i zs)) ++ wordLines cycle i (take (from + many - from) (drop from ws))
+  pub subs-start : (total next : ℕ) → Added s at count total next → Subs s at count size write to out₀ out₀ next at to 0 h
+  subs-start total next a =
+      record { below = omega arith; long = refl; splits-at = after-words s at count size h total next a; words-at = h .bytes; done = wrote-none write to out₀ }
+
+  module _ (out : List ℕ) (p w q i : ℕ) (inv : Subs s at count size write to out₀ out p w q i h) where
+    pub subs-end : size ≤ i → LinesPut write s to (linesOf size (h .c)) (h .rest) out₀ out q p
+    unfolding ws zs
+    subs-end l =
+        let e : length zs ≤ i = omega (arith, many-splits) in
+        let n : i ≡ length zs = omega (arith, many-splits, inv .below) in (
+          as-bytes write to (subcycleLines size 0 (cutBy ws (take i zs))) (linesOf size (h .c)) out₀ out q (ap (λ (x : List ℕ). subcycleLines size 0 (cutBy ws x)) (take-all i zs e) ∙ sym is-cut) (inv .done),
+          inv .splits-at ∙ ap (λ (x : ℕ). written (drop x zs) ++ h .rest) n ∙ ap (λ (x : List ℕ). written x ++ h .rest) (drop-length zs),
+        )
+
+    module _ (l : i < size) (z next : ℕ) (a : Added s p 1 z next) where
+      inside : i < length zs
+      inside = omega (arith, many-splits)
+
+      split-there : (z ≡ getD zs i 0) × (drop next s ≡ written (drop (i + 1) zs) ++ h .rest) × (z ≤ 65535)
+      unfolding zs
+      split-there = next-there s zs (h .rest) p i (splits-most s at count size h) inside (inv .splits-at) z next a
+
+      from : ℕ
+      from = sum (take i zs)
+
+      from-next : sum (take (i + 1) zs) ≡ from + z
+      unfolding from
+      from-next = omega (arith, sum-take zs i inside, split-there .0)
+
+      part-within : from + z ≤ length ws
+      unfolding ws zs
+      part-within = omega (arith, from-next, sum-le zs (i + 1), shape s at count size h .2)
+
+      part : List ℕ
+      part = take z (drop from ws)
+
+      part-long : length part ≡ z
+      unfolding part
+      part-long = length-take-le z (drop from ws) (omega (arith, length-drop from ws, part-within))
+
+      part-most : Most part
+      unfolding part ws
+      part-most =
+          let m : Most (drop from ws) = most-right (take from ws) (drop from ws) (subst Most (sym (take-append-drop from ws)) (all-words-most s at count size h)) in
+          most-left (take z (drop from ws)) (drop z (drop from ws)) (subst Most (sym (take-append-drop z (drop from ws))) m)
+
+      next-part : subcycleLines size 0 (cutBy ws (take (i + 1) zs)) ≡ subcycleLines size 0 (cutBy ws (take i zs)) ++ wordLines size i part
+      unfolding part from
       next-part =
-          let e : take (i + 1) zs ≡ take i zs ++ getD zs i 0 ∷ [] = ap (λ (k : ℕ). take k zs) (add-one i) ∙ take-suc zs i 0 h in
-          let l : 0 + length (cutBy ws (take i zs)) ≡ i = omega (arith, cut-length ws (take i zs), length-take-le i zs (omega arith)) in
-          ap (λ (x : List ℕ). subcycleLines cycle 0 (cutBy ws x)) e ∙ ap (subcycleLines cycle 0) (cut-append ws (take i zs) (getD zs i 0 ∷ []))
-          ∙ subs-append cycle 0 (cutBy ws (take i zs)) (take (getD zs i 0) (drop (sum (take i zs)) ws) ∷ [])
-          ∙ ap (λ (k : ℕ). subcycleLines cycle 0 (cutBy ws (take i zs)) ++ (wordLines cycle k (take (getD zs i 0) (drop (sum (take i zs)) ws)) ++ [])) l
-          ∙ ap (λ (x : List ℕ). subcycleLines cycle 0 (cutBy ws (take i zs)) ++ x) (append-nil (wordLines cycle i (take (getD zs i 0) (drop (sum (take i zs)) ws))) ∙ ap (wordLines cycle i) (sym part-is))
+          let e : take (i + 1) zs ≡ take i zs ++ z ∷ [] = ap (λ (k : ℕ). take k zs) (add-one i) ∙ take-suc zs i 0 inside ∙ ap (λ (k : ℕ). take i zs ++ k ∷ []) (sym (split-there .0)) in
+          let n : 0 + length (cutBy ws (take i zs)) ≡ i = omega (arith, cut-length ws (take i zs), length-take-le i zs (omega (arith, inside))) in
+          ap (λ (x : List ℕ). subcycleLines size 0 (cutBy ws x)) e ∙ ap (subcycleLines size 0) (cut-append ws (take i zs) (z ∷ []))
+          ∙ subs-append size 0 (cutBy ws (take i zs)) (take z (drop (sum (take i zs)) ws) ∷ [])
+          ∙ ap (λ (k : ℕ). subcycleLines size 0 (cutBy ws (take i zs)) ++ (wordLines size k (take z (drop (sum (take i zs)) ws)) ++ [])) n
+          ∙ ap (λ (x : List ℕ). subcycleLines size 0 (cutBy ws (take i zs)) ++ x) (append-nil (wordLines size i (take z (drop (sum (take i zs)) ws))))
 
-      room : length (subcycleLines cycle 0 (cutBy ws (take i zs))) + length (wordLines cycle i (take (from + many - from) (drop from ws))) ≤ length (subcycleLines cycle 0 (cutBy ws zs))
+      room : length (subcycleLines size 0 (cutBy ws (take i zs))) + length (wordLines size i part) ≤ length (subcycleLines size 0 (cutBy ws zs))
       room =
-          let a : cutBy ws zs ≡ cutBy ws (take (i + 1) zs) ++ cutBy (drop (sum (take (i + 1) zs)) ws) (drop (i + 1) zs) =
+          let x : cutBy ws zs ≡ cutBy ws (take (i + 1) zs) ++ cutBy (drop (sum (take (i + 1) zs)) ws) (drop (i + 1) zs) =
           ap (cutBy ws) (sym (take-append-drop (i + 1) zs)) ∙ cut-append ws (take (i + 1) zs) (drop (i + 1) zs) in
-          let b = subs-append cycle 0 (cutBy ws (take (i + 1) zs)) (cutBy (drop (sum (take (i + 1) zs)) ws) (drop (i + 1) zs)) in
+          let y = subs-append size 0 (cutBy ws (take (i + 1) zs)) (cutBy (drop (sum (take (i + 1) zs)) ws) (drop (i + 1) zs)) in
           omega (
             arith,
             ap length next-part,
-            length-append (subcycleLines cycle 0 (cutBy ws (take i zs))) (wordLines cycle i (take (from + many - from) (drop from ws))),
-            ap (λ (x : List (List ℕ)). length (subcycleLines cycle 0 x)) a,
-            ap length b,
-            length-append (subcycleLines cycle 0 (cutBy ws (take (i + 1) zs))) (subcycleLines cycle (0 + length (cutBy ws (take (i + 1) zs))) (cutBy (drop (sum (take (i + 1) zs)) ws) (drop (i + 1) zs))),
+            length-append (subcycleLines size 0 (cutBy ws (take i zs))) (wordLines size i part),
+            ap (λ (x : List (List ℕ)). length (subcycleLines size 0 x)) x,
+            ap length y,
+            length-append (subcycleLines size 0 (cutBy ws (take (i + 1) zs))) (subcycleLines size (0 + length (cutBy ws (take (i + 1) zs))) (cutBy (drop (sum (take (i + 1) zs)) ws) (drop (i + 1) zs))),
           )
 
-      pub lines-fit : Fits write p (length (wordLines cycle i (take (from + many - from) (drop from ws)))) out
-      lines-fit =
-          fits-part write at (length (subcycleLines cycle 0 (cutBy ws zs))) out₀ (inv .fits) p (length (subcycleLines cycle 0 (cutBy ws (take i zs)))) (length (wordLines cycle i (take (from + many - from) (drop from ws)))) out
-          (inv .done .next) room (inv .long)
+      pub small : (size < 10000) × (i < 10000)
+      small = (omega (arith, size-small s at count size h), omega (arith, size-small s at count size h))
 
-      pub subs-more : (out' : List ℕ) (r : ℕ) → Wrote write p (wordLines cycle i (take (from + many - from) (drop from ws))) out out' r → length out' ≡ length out
-          → Subs write cycle at ws zs out₀ out' r (from + many) (i + 1)
-      subs-more out' r w k =
+      pub part-here : WordsHere s w z size i write q out
+      unfolding part from ws zs
+      part-here =
+          record {
+            words = part;
+            rest = written (drop z (drop from ws)) ++ (written zs ++ h .rest);
+            long = part-long;
+            most = part-most;
+            bytes = inv .words-at ∙ cut-written z (drop from ws) (written zs ++ h .rest);
+            fits = fits-part write to (length (subcycleLines size 0 (cutBy ws zs))) out₀ all-fit q (length (subcycleLines size 0 (cutBy ws (take i zs)))) (length (wordLines size i part)) out (inv .done .next) room (inv .long);
+          }
+
+      pub subs-more : (out' : List ℕ) (r w' : ℕ) → LinesPut write s q (wordLines size i (part-here .words)) (part-here .rest) out out' r w' → length out' ≡ length out
+          → Subs s at count size write to out₀ out' next w' r (i + 1) h
+      unfolding part from ws zs part-here
+      subs-more out' r w' x k =
           record {
             below = omega arith;
-            small = inv .small;
-            few = inv .few;
-            within = inv .within;
-            fits = inv .fits;
             long = k ∙ inv .long;
-            place = omega (arith, inv .place, sum-take zs i h);
-            done = as-bytes write at (subcycleLines cycle 0 (cutBy ws (take i zs)) ++ wordLines cycle i (take (from + many - from) (drop from ws))) (subcycleLines cycle 0 (cutBy ws (take (i + 1) zs))) out₀ out' r (sym next-part)
-                (and-then write at (subcycleLines cycle 0 (cutBy ws (take i zs))) (wordLines cycle i (take (from + many - from) (drop from ws))) out₀ out out' p r (length (subcycleLines cycle 0 (cutBy ws zs))) (inv .fits) (inv .done) w);
+            splits-at = split-there .1;
+            words-at = x .1 ∙ ap (λ (y : List ℕ). written y ++ (written zs ++ h .rest)) (drop-drop z from ws)
+                ∙ ap (λ (n : ℕ). written (drop n ws) ++ (written zs ++ h .rest)) (sym from-next);
+            done = as-bytes write to (subcycleLines size 0 (cutBy ws (take i zs)) ++ wordLines size i part) (subcycleLines size 0 (cutBy ws (take (i + 1) zs))) out₀ out' r (sym next-part)
+                (and-then write to (subcycleLines size 0 (cutBy ws (take i zs))) (wordLines size i part) out₀ out out' q r (length (subcycleLines size 0 (cutBy ws zs))) all-fit (inv .done) (x .0));
           }
+
+-- ---- any cycle
+module _ (s : List ℕ) (at size : ℕ) (write : Bool) (to : ℕ) (out : List ℕ) (h : CycleHere s at size) (f : LinesFit write to (h .c) size out) (count p : ℕ) (a : Added s at 1 count p) where
+  module _ (one : size ≡ 1) where
+    only-lines : linesOf size (h .c) ≡ wordLines size 0 (h .c .words)
+    only-lines = ap (λ (x : List ℕ). subcycleLines size 0 (subcycles (h .c .words) x)) (no-split s at size h count p a one) ∙ append-nil (wordLines size 0 (h .c .words))
+
+    pub all-here : WordsHere s p count size 0 write to out
+    all-here =
+        record {
+          words = h .c .words;
+          rest = h .rest;
+          long = sym (count-there s at size h count p a .0);
+          most = words-most (h .c .words) (h .obeys .words);
+          bytes = only-words s at size h count p a one;
+          fits = subst (λ (x : List ℕ). Fits write to (length x) out) only-lines f;
+        }
+
+    pub all-put : (out' : List ℕ) (r next : ℕ) → LinesPut write s to (wordLines size 0 (all-here .words)) (all-here .rest) out out' r next → LinesPut write s to (linesOf size (h .c)) (h .rest) out out' r next
+    unfolding all-here
+    all-put out' r next x = (as-bytes write to (wordLines size 0 (h .c .words)) (linesOf size (h .c)) out out' r (sym only-lines) (x .0), x .1)
+
+  pub none-put : count ≡ 0 → LinesPut write s to (linesOf size (h .c)) (h .rest) out out to p
+  none-put z =
+      let w = no-word s at size h count p a z in
+      let e : linesOf size (h .c) ≡ [] = ap (λ (x : List ℕ). subcycleLines size 0 (subcycles x (h .c .splits))) (w .0) ∙ ap (λ (x : List ℕ). subcycleLines size 0 (subcycles [] x)) (w .1) in
+      (as-bytes write to [] (linesOf size (h .c)) out out to (sym e) (wrote-none write to out), nothing-here s at size h count p a z)

@@ -20,9 +20,9 @@ use Rattle.lists.specs.Reading.{Read, denied, took}
 use Rattle.lists.specs.Sends.{cutBy, subcycles}
 use Rattle.lists.specs.Accepts.{accepted}
 use Rattle.lists.specs.Answers.{toldCheck, toldRead}
-use Rattle.lists.specs.Written.{file, CyclesObey, Obeys}
+use Rattle.list_laws.specs.Written.{file, CyclesObey, Obeys}
 use Rattle.lists.proofs.ListLaws.{cycles-most}
-use Rattle.lists.proofs.Acceptance.{accepted-obeys, obeys-accepted, one-list}
+use Rattle.list_laws.proofs.Acceptance.{accepted-obeys, obeys-accepted, one-list}
 use Rattle.periods.specs.Inside.{IsList}
 use Rattle.list_text.specs.Text.{digit, two, decimal, space, newline, field, headerLine, wordLine, refusedLine, wordLines, subcycleLines, cycleLines, textOf, textBy}
 use Rattle.list_text.specs.Inside.{wroteIf, Wrote, RoomIf, Fits, CyclesHere, CyclesWrote, ListHere, TextFits, TextWrote}

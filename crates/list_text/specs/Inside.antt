@@ -6,10 +6,12 @@ use mathlib.Core.List.{List, [], _∷_, _++_}
 use mathlib.Core.Bool.{Bool, true, false}
 use lib.ListN.{length, take, drop}
 use Rattle.lists.specs.declared.Header.{Header}
-use Rattle.lists.specs.Values.{PeriodicList, wordsOf}
+use Rattle.numbers.specs.Written.{written, Most}
+use Rattle.lists.specs.Values.{Cycle, PeriodicList, wordsOf}
+use Rattle.lists.specs.Sends.{subcycles}
 use Rattle.lists.specs.Reading.{took}
-use Rattle.lists.specs.Written.{Obeys, file}
-use Rattle.list_text.specs.Text.{cycleLines, textOf}
+use Rattle.list_laws.specs.Written.{Obeys, file}
+use Rattle.list_text.specs.Text.{wordLines, subcycleLines, cycleLines, textOf}
 use Rattle.periods.specs.Inside.{IsList}
 
 -- the lent bytes with some bytes written at a place; or as they were
@@ -31,6 +33,27 @@ RoomIf false n out = Unit {0}
 pub record Fits (write : Bool) (at n : ℕ) (out : List ℕ) : Type 0 where
   pub room : RoomIf write (at + n) out
   pub small : at + n ≤ 100000
+
+-- so many words stand at a place, then other bytes, and the words' lines fit
+pub record WordsHere (s : List ℕ) (at many cycle sub : ℕ) (write : Bool) (to : ℕ) (out : List ℕ) : Type 0 where
+  pub words : List ℕ
+  pub rest : List ℕ
+  pub long : length words ≡ many
+  pub most : Most words
+  pub bytes : drop at s ≡ written words ++ rest
+  pub fits : Fits write to (length (wordLines cycle sub words)) out
+
+-- some lines were counted or written, and the list was read as far as the bytes after them
+abbrev pub LinesPut : Bool → List ℕ → ℕ → List ℕ → List ℕ → List ℕ → List ℕ → ℕ → ℕ → Type 0
+LinesPut write s to lines rest out out' r next = Wrote write to lines out out' r × (drop next s ≡ rest)
+
+-- the lines of a cycle
+abbrev pub linesOf : ℕ → Cycle → List ℕ
+linesOf size c = subcycleLines size 0 (subcycles (c .words) (c .splits))
+
+-- they fit
+abbrev pub LinesFit : Bool → ℕ → Cycle → ℕ → List ℕ → Type 0
+LinesFit write to c size out = Fits write to (length (linesOf size c)) out
 
 -- the bytes are the file of a list that obeys the rules, and its cycles' lines fit
 pub record CyclesHere (s : List ℕ) (ms : ℕ) (write : Bool) (at : ℕ) (out : List ℕ) : Type 0 where

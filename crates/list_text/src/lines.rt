@@ -2,64 +2,95 @@
 use crate::numerals::put_header;
 use crate::numerals::put_line;
 use lists::Header;
-use lists::cycle_at;
 use lists::cycles_of;
-use numbers::read_numbers;
+use numbers::sum_numbers;
 ghost use mathlib.Core.Path.{_≡_};
 ghost use mathlib.Core.List.{List};
 ghost use mathlib.Core.Bool.{Bool};
-ghost use Prim.Native.Nat.{ℕ, _≤_, _<_};
-ghost use lib.ListN.{length};
-ghost use Rattle.lists.specs.Values.{sum};
-ghost use Rattle.lists.specs.Sends.{subcycles};
-ghost use Rattle.list_text.specs.Text.{wordLines, subcycleLines};
-ghost use Rattle.list_text.specs.Inside.{Fits, Wrote, CyclesHere, CyclesWrote, ListHere, TextFits, TextWrote};
+ghost use Prim.Native.Nat.{ℕ, _<_};
+ghost use Rattle.periods.specs.Inside.{CycleHere, SplitHere};
+ghost use Rattle.list_text.specs.Text.{wordLines};
+ghost use Rattle.list_text.specs.Inside.{WordsHere, LinesPut, LinesFit, linesOf, CyclesHere, CyclesWrote, ListHere, TextFits, TextWrote};
 
-fn wide(x: u16) -> usize
-    ensures { λ r. ⌜ r ≡ x ⌝ }
-{
-    x as usize
+// The places after what was read of the list, and after what was written.
+struct Places {
+    next: usize,
+    to: usize,
 }
 
-// The lines of the words of one Subcycle.
-fn put_lines(words: &[u16], cycle: u16, sub: u16, out: &mut [u8], at: usize, write: bool) -> usize
-    requires { ⌜ (cycle < 10000) × (sub < 10000) × Fits write at (length (wordLines cycle sub (now words))) (now out) ⌝ }
-    ensures { λ r. ⌜ Wrote write at (wordLines cycle sub (now (words .entry))) (now (out .entry)) (now (out .exit)) r ⌝ }
-{
-    let mut p = at;
-    let mut i = 0;
-    while i < words.len() {
-        p = put_line(out, p, cycle, sub, words[i], write);
-        i += 1;
-    }
-    p
-}
-
-// The lines of a cycle's words.
-fn put_cycle(
-    words: &[u16],
-    splits: &[u16],
-    cycle: u16,
-    out: &mut [u8],
+// The lines of so many words that stand at a place, all of one Subcycle.
+fn put_lines(
+    list: &[u8],
     at: usize,
+    many: usize,
+    cycle: u16,
+    sub: u16,
+    out: &mut [u8],
+    to: usize,
     write: bool,
-) -> usize
-    requires { ⌜ (cycle < 10000) × (length (now splits) ≤ 1024) × (sum (now splits) ≤ length (now words)) × Fits write at (length (subcycleLines cycle 0 (subcycles (now words) (now splits)))) (now out) ⌝ }
-    ensures { λ r. ⌜ Wrote write at (subcycleLines cycle 0 (subcycles (now (words .entry)) (now (splits .entry)))) (now (out .entry)) (now (out .exit)) r ⌝ }
+) -> Places
+    requires { ⌜ (cycle < 10000) × (sub < 10000) × WordsHere (now list) at many cycle sub write to (now out) ⌝ }
+    ensures { λ r. ⌜ ((h : WordsHere (now (list .entry)) at many cycle sub write to (now (out .entry)))
+        → LinesPut write (now (list .entry)) to (wordLines cycle sub (h .words)) (h .rest) (now (out .entry)) (now (out .exit)) (r .to) (r .next)) ⌝ }
 {
-    if splits.len() == 0 {
-        return put_lines(words, cycle, 0, out, at, write);
-    }
     let mut p = at;
-    let mut from: usize = 0;
+    let mut q = to;
     let mut i: usize = 0;
-    while i < splits.len() {
-        let to = from + wide(splits[i]);
-        p = put_lines(&words[from..to], cycle, i as u16, out, p, write);
-        from = to;
+    while i < many {
+        let w = sum_numbers(list, p, 1);
+        q = put_line(out, q, cycle, sub, w.total as u16, write);
+        p = w.next;
         i += 1;
     }
-    p
+    Places { next: p, to: q }
+}
+
+// The lines of a cycle with split numbers, whose words start at a place: a second place walks the words again while the
+// split numbers are read.
+fn put_split(
+    list: &[u8],
+    at: usize,
+    count: u16,
+    size: u16,
+    out: &mut [u8],
+    to: usize,
+    write: bool,
+) -> Places
+    requires { ⌜ ((h : SplitHere (now list) at count size) × LinesFit write to (h .c) size (now out)) ⌝ }
+    ensures { λ r. ⌜ ((h : SplitHere (now (list .entry)) at count size) → LinesFit write to (h .c) size (now (out .entry))
+        → LinesPut write (now (list .entry)) to (linesOf size (h .c)) (h .rest) (now (out .entry)) (now (out .exit)) (r .to) (r .next)) ⌝ }
+{
+    let words = sum_numbers(list, at, count);
+    let mut p = words.next;
+    let mut w = at;
+    let mut q = to;
+    let mut i: u16 = 0;
+    while i < size {
+        let z = sum_numbers(list, p, 1);
+        let l = put_lines(list, w, z.total, size, i, out, q, write);
+        w = l.next;
+        q = l.to;
+        p = z.next;
+        i += 1;
+    }
+    Places { next: p, to: q }
+}
+
+// The lines of the cycle at a place, with so many Subcycles.
+fn put_cycle(list: &[u8], at: usize, size: u16, out: &mut [u8], to: usize, write: bool) -> Places
+    requires { ⌜ ((h : CycleHere (now list) at size) × LinesFit write to (h .c) size (now out)) ⌝ }
+    ensures { λ r. ⌜ ((h : CycleHere (now (list .entry)) at size) → LinesFit write to (h .c) size (now (out .entry))
+        → LinesPut write (now (list .entry)) to (linesOf size (h .c)) (h .rest) (now (out .entry)) (now (out .exit)) (r .to) (r .next)) ⌝ }
+{
+    let c = sum_numbers(list, at, 1);
+    let count = c.total;
+    if size == 1 {
+        return put_lines(list, c.next, count, size, 0, out, to, write);
+    }
+    if count == 0 {
+        return Places { next: c.next, to };
+    }
+    put_split(list, c.next, count as u16, size, out, to, write)
 }
 
 // The lines of all words of an accepted list.
@@ -67,21 +98,16 @@ fn put_cycles(list: &[u8], ms: u16, out: &mut [u8], at: usize, write: bool) -> u
     requires { ⌜ CyclesHere (now list) ms write at (now out) ⌝ }
     ensures { λ r. ⌜ CyclesWrote write (now (list .entry)) at (now (out .entry)) (now (out .exit)) r ⌝ }
 {
-    let mut header = [0u16; 4];
-    let mut words = [0u16; 256];
-    let mut splits = [0u16; 1024];
     let cycles = cycles_of(ms);
-    let h = read_numbers(list, 0, &mut header);
-    let mut p = h.next;
+    let header = sum_numbers(list, 0, 4);
+    let mut p = header.next;
     let mut q = at;
     let mut n: usize = 0;
     let mut size: u16 = 1;
     while n < cycles {
-        let c = cycle_at(list, p, n, &mut words, &mut splits);
-        let w = c.words;
-        let z = c.splits;
-        q = put_cycle(&words[..w], &splits[..z], size, out, q, write);
+        let c = put_cycle(list, p, size, out, q, write);
         p = c.next;
+        q = c.to;
         n += 1;
         size += size;
     }

@@ -10,9 +10,4 @@ pub mod SentLaws
 pub mod CyclesLaws
 pub mod ListLaws
 pub mod ThenLaws
-pub mod WasLaws
-pub mod ClashLaws
-pub mod Acceptance
-pub mod PlainLaws
-pub mod OrderLaws
 pub mod Apart

@@ -23,7 +23,8 @@ use Rattle.lists.specs.declared.Part.the-variants.{Done, Refused as Refu
 use Rattle.lists.specs.declared.ListCheck.{ListCheck}
 use Rattle.lists.specs.declared.ListCheck.the-variants.{Accepted, Refused}
 use Rattle.lists.specs.Values.{Cycle, PeriodicList, cyclesOf, periodsOf, byMs, wordsOf}
-use Rattle.lists.specs.Rules.{Check, right, wrong, unless, also, fcode, listable, rules}
+use Rattle.frames.specs.Words.{fCode}
+use Rattle.lists.specs.Rules.{Check, right, wrong, unless, also, listable, rules}
 use Rattle.lists.specs.Reading.{Read, denied, took, then, when, within, afterMs, headerIn, cycleIn, cyclesIn, listIn}
 use Rattle.lists.specs.Sends.{cutBy, subcycles, subcycle, sentFrom, sends, takes, some, overfull, crowded}
 use Rattle.lists.specs.Accepts.{none, ending, ended, accepted, afterHeader}
@@ -78,11 +79,11 @@ all-sent (c ∷ cs) m j h =
 -- ---- a weight is the bit times and the number of words
 weigh-is : (gap : ℕ) (weights ws : List ℕ) → WeightsOf gap weights → AllListable ws → weigh weights ws ≡ 1400000 * length ws + takes gap ws
 weigh-is gap weights [] w h = refl
-weigh-is gap weights (v ∷ ws) w h = omega (arith, w .at (fcode v) (h .0), weigh-is gap weights ws w (h .1))
+weigh-is gap weights (v ∷ ws) w h = omega (arith, w .at (fCode v) (h .0), weigh-is gap weights ws w (h .1))
 
 takes-few : (gap : ℕ) (ws : List ℕ) → gap ≤ 128 → AllListable ws → takes gap ws ≤ 458 * length ws
 takes-few gap [] g h = omega arith
-takes-few gap (v ∷ ws) g h = omega (arith, telegram-range gap (fcode v) (h .0) .1, takes-few gap ws g (h .1))
+takes-few gap (v ∷ ws) g h = omega (arith, telegram-range gap (fCode v) (h .0) .1, takes-few gap ws g (h .1))
 
 some-same : (k : ℕ) (f g : ℕ → Bool) → ((j : ℕ) → j < k → f j ≡ g j) → some k f ≡ some k g
 some-same zero f g h = refl

@@ -11,7 +11,8 @@ use lib.Dec.{ltb, eqb, eqb·zero-suc, eqb·suc-zero, eqb·suc-suc}
 use lib.ListN.{length, getD, set, length-set}
 use lib.Pow.{shr-shr, shl-exact}
 use lib.Seq.{getD-set-same, getD-set-other}
-use Rattle.lists.specs.Rules.{fcode, address, processData, listable, clash, clashes}
+use Rattle.frames.specs.Words.{fCode, address}
+use Rattle.lists.specs.Rules.{processData, listable, clash, clashes}
 use Rattle.lists.specs.Inside.{markBy, markOf, marked, bit, flag, AllListable, SeenIs}
 
 -- ---- a bit of a number
@@ -75,7 +76,7 @@ or-true : (a : Bool) → (a || true) ≡ true
 or-true true = refl
 or-true false = refl
 
-status : (w : ℕ) → listable w ≡ true → processData w ≡ false → fcode w ≡ 15
+status : (w : ℕ) → listable w ≡ true → processData w ≡ false → fCode w ≡ 15
 status w l p = eqb-true (w / 4096) 15 (sym (ap (λ (b : Bool). b || eqb (w / 4096) 15) p) ∙ l)
 
 clash-mark : (v w : ℕ) → listable v ≡ true → listable w ≡ true → clash v w ≡ eqb (markOf v) (markOf w)
@@ -83,24 +84,24 @@ unfolding clash markOf
 clash-mark v w lv lw = go (processData v) (processData w) refl refl
   where
     go : (a b : Bool) → processData v ≡ a → processData w ≡ b
-        → ((a && (b && eqb (address v) (address w))) || (eqb (fcode w) 15 && eqb v w)) ≡ eqb (markBy a (v % 4096)) (markBy b (w % 4096))
+        → ((a && (b && eqb (address v) (address w))) || (eqb (fCode w) 15 && eqb v w)) ≡ eqb (markBy a (v % 4096)) (markBy b (w % 4096))
     go true true p q =
-        let f : eqb (fcode w) 15 ≡ false = ne-eqb (fcode w) 15 (λ e. absurd (omega (arith, ltb-true (fcode w) 5 q))) in
+        let f : eqb (fCode w) 15 ≡ false = ne-eqb (fCode w) 15 (λ e. absurd (omega (arith, ltb-true (fCode w) 5 q))) in
         rw f (or-false (eqb (address v) (address w)))
     go true false p q =
-        let f : fcode w ≡ 15 = status w lw q in
-        let n : fcode v < 5 = ltb-true (fcode v) 5 p in
-        let d : eqb v w ≡ false = ne-eqb v w (λ e. absurd (omega (arith, ap fcode e))) in
+        let f : fCode w ≡ 15 = status w lw q in
+        let n : fCode v < 5 = ltb-true (fCode v) 5 p in
+        let d : eqb v w ≡ false = ne-eqb v w (λ e. absurd (omega (arith, ap fCode e))) in
         let m : eqb (v % 4096) (4096 + w % 4096) ≡ false = ne-eqb (v % 4096) (4096 + w % 4096) (λ e. absurd (omega arith)) in
-        rw (eq-eqb (fcode w) 15 f, d, m)
+        rw (eq-eqb (fCode w) 15 f, d, m)
     go false true p q =
-        let f : eqb (fcode w) 15 ≡ false = ne-eqb (fcode w) 15 (λ e. absurd (omega (arith, ltb-true (fcode w) 5 q))) in
+        let f : eqb (fCode w) 15 ≡ false = ne-eqb (fCode w) 15 (λ e. absurd (omega (arith, ltb-true (fCode w) 5 q))) in
         let m : eqb (4096 + v % 4096) (w % 4096) ≡ false = ne-eqb (4096 + v % 4096) (w % 4096) (λ e. absurd (omega arith)) in
         rw (f, m)
     go false false p q =
-        let f : fcode v ≡ 15 = status v lv p in
-        let g : fcode w ≡ 15 = status w lw q in
-        rw (eq-eqb (fcode w) 15 g) (same-test v w (4096 + v % 4096) (4096 + w % 4096) (λ e. ap (λ (x : ℕ). 4096 + x % 4096) e) (λ e. omega arith))
+        let f : fCode v ≡ 15 = status v lv p in
+        let g : fCode w ≡ 15 = status w lw q in
+        rw (eq-eqb (fCode w) 15 g) (same-test v w (4096 + v % 4096) (4096 + w % 4096) (λ e. ap (λ (x : ℕ). 4096 + x % 4096) e) (λ e. omega arith))
 
 pub clashes-marked : (w : ℕ) (ws : List ℕ) → listable w ≡ true → AllListable ws → clashes w ws ≡ marked (markOf w) ws
 clashes-marked w [] l a = refl

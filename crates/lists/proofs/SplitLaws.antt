@@ -18,7 +18,8 @@ use Rattle.numbers.specs.declared.Number.{Number}
 use Rattle.numbers.specs.declared.Number.the-variants.{Value, Refused}
 use Rattle.lists.specs.declared.Part.{Part}
 use Rattle.lists.specs.declared.Part.the-variants.{Done, Refused as Refused-part}
-use Rattle.lists.specs.Values.{Cycle, sum}
+use Rattle.numbers.specs.Number.{sum}
+use Rattle.lists.specs.Values.{Cycle}
 use Rattle.lists.specs.Rules.{splitRule, rules}
 use Rattle.lists.specs.Reading.{Read, denied, took, then, when, within, splitsIn, summedIn, splitIn}
 use Rattle.lists.specs.Sends.{cutBy, subcycles, subcycle}

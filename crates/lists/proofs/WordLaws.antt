@@ -16,7 +16,8 @@ use Rattle.numbers.specs.declared.Number.{Number}
 use Rattle.numbers.specs.declared.Number.the-variants.{Value, Refused}
 use Rattle.lists.specs.declared.Part.{Part}
 use Rattle.lists.specs.declared.Part.the-variants.{Done, Refused as Refused-part}
-use Rattle.lists.specs.Rules.{Check, right, wrong, unless, also, fcode, listable, clashes, wordRule, rules}
+use Rattle.frames.specs.Words.{fCode}
+use Rattle.lists.specs.Rules.{Check, right, wrong, unless, also, listable, clashes, wordRule, rules}
 use Rattle.lists.specs.Reading.{Read, denied, took, then, when, numberIn, wordsIn}
 use Rattle.lists.specs.Inside.{readOf, Tells, SeenIs, WordTold, weigh, Weights, Sums}
 
@@ -69,7 +70,7 @@ sums-start weights sums h =
     record { at = λ i l. let z : 0 ≡ i = omega arith in subst (λ (k : ℕ). getD (set sums 0 0) k 0 ≡ weigh weights (take k [])) z (getD-set-same sums 0 0 0 h) }
 
 module _ (weights own sums : List ℕ) (k : Sums weights own sums) (i : ℕ) (e : length own ≡ i) (l : i + 1 < length sums) where
-  pub sums-more : (w x : ℕ) → x ≡ getD sums i 0 + getD weights (fcode w) 0 → Sums weights (own ++ w ∷ []) (set sums (i + 1) x)
+  pub sums-more : (w x : ℕ) → x ≡ getD sums i 0 + getD weights (fCode w) 0 → Sums weights (own ++ w ∷ []) (set sums (i + 1) x)
   sums-more w x q =
       let n : length (own ++ w ∷ []) ≡ i + 1 = omega (arith, length-append own (w ∷ [])) in
       let all : getD sums i 0 ≡ weigh weights own = k .at i (omega arith) ∙ ap (weigh weights) (take-all i own (omega arith)) in
@@ -158,7 +159,7 @@ module _ (s : List ℕ) (at count : ℕ) (weights seen₀ : List ℕ) where
             tells-no s (wordsIn rules count before [] (drop at s)) _ m
             (next-one before k ∙ refused-word (numberOf m) (numberIn (drop p s)) (wordRule (before ++ u .own)) (λ w rest. wordsIn rules (count - (i + 1)) before (u .own ++ w ∷ []) rest) o)
 
-        pub more : length seen' ≡ length seen → (w next x : ℕ) → r ≡ Value w next → x ≡ sum + getD weights (fcode w) 0
+        pub more : length seen' ≡ length seen → (w next x : ℕ) → r ≡ Value w next → x ≡ sum + getD weights (fCode w) 0
             → Inv s at count weights seen₀ seen' (set sums (i + 1) x) next (i + 1) x
         unfolding WordTold
         more kept w next x e q =
@@ -169,7 +170,7 @@ module _ (s : List ℕ) (at count : ℕ) (weights seen₀ : List ℕ) where
               marks = kept ∙ inv .marks;
               places = length-set sums (i + 1) x ∙ inv .places;
               last = getD-set-same sums (i + 1) x 0 sums-there;
-              most = omega (arith, inv .most, inv .weighs .most (fcode w));
+              most = omega (arith, inv .most, inv .weighs .most (fCode w));
               told = λ before k.
                   let u = inv .told before k in
                   let o : WordTold s p (before ++ u .own) (Value w next) seen' = rw e at (t (before ++ u .own) (u .marks)) in
@@ -177,7 +178,7 @@ module _ (s : List ℕ) (at count : ℕ) (weights seen₀ : List ℕ) where
                     own = u .own ++ w ∷ [];
                     long = omega (arith, length-append (u .own) (w ∷ []), u .long);
                     marks = rw append-assoc at (o .2);
-                    adds = sums-more weights (u .own) sums (u .adds) i (u .long) sums-there w x (q ∙ ap (λ (y : ℕ). y + getD weights (fcode w) 0) (sym (inv .last)));
+                    adds = sums-more weights (u .own) sums (u .adds) i (u .long) sums-there w x (q ∙ ap (λ (y : ℕ). y + getD weights (fCode w) 0) (sym (inv .last)));
                     left = sym (next-one before k ∙ rw (o .0, o .1));
                   };
             }

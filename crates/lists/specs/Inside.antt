@@ -16,7 +16,8 @@ use Rattle.lists.specs.declared.HeadRead.the-variants.{Head, Refused as 
 use Rattle.lists.specs.declared.Part.{Part}
 use Rattle.lists.specs.declared.Part.the-variants.{Done, Refused}
 use Rattle.lists.specs.Values.{Cycle, wordsOf}
-use Rattle.lists.specs.Rules.{right, fcode, processData, listable, wordRule}
+use Rattle.frames.specs.Words.{fCode}
+use Rattle.lists.specs.Rules.{right, processData, listable, wordRule}
 use Rattle.lists.specs.Reading.{Read, denied, took, then, when, numberIn}
 use Rattle.lists.specs.Sends.{cutBy, subcycle, sentFrom}
 
@@ -84,7 +85,7 @@ pub record Marked (seen : List ℕ) : Type 0 where
 -- what words weigh, by the weights of their F_codes
 abbrev pub weigh : List ℕ → List ℕ → ℕ
 weigh weights [] = 0
-weigh weights (w ∷ ws) = getD weights (fcode w) 0 + weigh weights ws
+weigh weights (w ∷ ws) = getD weights (fCode w) 0 + weigh weights ws
 
 -- a word counts 1,400,000 beside the bit times of its telegram, which no Basic Period can reach: 2,816 words take at most 1,289,728
 pub record Weights (weights : List ℕ) : Type 0 where

@@ -5,6 +5,3 @@ pub mod Sends
 pub mod Accepts
 pub mod Answers
 pub mod Inside
-pub mod Written
-pub mod Plain
-pub mod Order

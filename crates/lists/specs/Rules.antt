@@ -1,10 +1,11 @@
 -- The rules at a listed word and after a cycle's split numbers (document 01, "The list file").
 -- Assumes nothing.
-use Prim.Native.Nat.{ℕ, _/_, _%_}
+use Prim.Native.Nat.{ℕ}
 use mathlib.Core.List.{List, [], _∷_}
 use mathlib.Core.Bool.{Bool, true, false, not, _&&_, _||_}
 use lib.Dec.{ltb, eqb}
-use Rattle.lists.specs.Values.{sum}
+use Rattle.frames.specs.Words.{fCode, address}
+use Rattle.numbers.specs.Number.{sum}
 
 -- what a check says: nothing, or a refusal
 pub data Check : Type 0 where
@@ -21,25 +22,17 @@ abbrev pub also : Check → Check → Check
 also right b = b
 also (wrong n) b = wrong n
 
--- "the top four bits are the F_code, the low twelve an address"
-abbrev pub fcode : ℕ → ℕ
-fcode w = w / 4096
-
--- "the low twelve an address"
-abbrev pub address : ℕ → ℕ
-address w = w % 4096
-
 -- a Process Data word has F_code 0 to 4
 abbrev pub processData : ℕ → Bool
-processData w = ltb (fcode w) 5
+processData w = ltb (fCode w) 5
 
 -- "A listed word has F_code 0 to 4 or 15."
 abbrev pub listable : ℕ → Bool
-listable w = processData w || eqb (fcode w) 15
+listable w = processData w || eqb (fCode w) 15
 
 -- "No two listed Process Data words share an address, whatever their F_codes; no word with F_code 15 is listed twice."
 unfoldable pub clash : ℕ → ℕ → Bool
-clash v w = (processData v && (processData w && eqb (address v) (address w))) || (eqb (fcode w) 15 && eqb v w)
+clash v w = (processData v && (processData w && eqb (address v) (address w))) || (eqb (fCode w) 15 && eqb v w)
 
 -- does a word clash with one of those before it
 abbrev pub clashes : ℕ → List ℕ → Bool

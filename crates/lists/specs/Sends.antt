@@ -7,7 +7,7 @@ use lib.ListN.{length, getD, take, drop}
 use lib.Dec.{ltb}
 use Rattle.timing.specs.Timing.{telegramBits}
 use Rattle.lists.specs.Values.{Cycle, PeriodicList, periodsOf}
-use Rattle.lists.specs.Rules.{fcode}
+use Rattle.frames.specs.Words.{fCode}
 
 -- "The first words of a cycle, as many as split number 0 says, are in Subcycle 0, the next in Subcycle 1, and so on"
 abbrev pub cutBy : List ℕ → List ℕ → List (List ℕ)
@@ -35,7 +35,7 @@ sends l j = sentFrom 0 j (l .cycles)
 -- the bit times of the telegrams of some words
 abbrev pub takes : ℕ → List ℕ → ℕ
 takes gap [] = 0
-takes gap (w ∷ ws) = telegramBits (fcode w) gap + takes gap ws
+takes gap (w ∷ ws) = telegramBits (fCode w) gap + takes gap ws
 
 -- does the test hold for a number below k
 abbrev pub some : ℕ → (ℕ → Bool) → Bool

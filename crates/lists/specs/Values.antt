@@ -1,6 +1,6 @@
 -- A list as a value: what its file says (document 01, "The list file").
 -- Assumes nothing.
-use Prim.Native.Nat.{ℕ, _+_}
+use Prim.Native.Nat.{ℕ}
 use mathlib.Core.List.{List, [], _∷_, _++_}
 use mathlib.Core.Bool.{Bool, true, false}
 use lib.Dec.{eqb}
@@ -33,8 +33,3 @@ periodsOf ms = byMs (eqb ms 1) 1024 512
 abbrev pub wordsOf : List Cycle → List ℕ
 wordsOf [] = []
 wordsOf (c ∷ cs) = c .words ++ wordsOf cs
-
--- what numbers "add up to"
-abbrev pub sum : List ℕ → ℕ
-sum [] = 0
-sum (x ∷ l) = x + sum l

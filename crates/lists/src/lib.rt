@@ -11,17 +11,14 @@ use crate::head::read_header;
 use crate::load::crowded;
 use crate::load::overfull;
 use crate::load::weights;
-use crate::splits::least;
-use numbers::read_numbers;
 use refusals::Refusal;
 ghost use mathlib.Core.Path.{_≡_};
 ghost use mathlib.Core.List.{List};
-ghost use Prim.Native.Nat.{ℕ, _≤_};
+ghost use Prim.Native.Nat.{ℕ};
 ghost use lib.ListN.{length, drop};
 ghost use Rattle.lists.specs.Values.{Cycle, cyclesOf, periodsOf};
 ghost use Rattle.lists.specs.Accepts.{accepted, ended, afterHeader};
 ghost use Rattle.lists.specs.Answers.{toldCheck, toldRead};
-ghost use Rattle.lists.specs.Plain.{splitsFor, wordsRun, splitsRun, over, cycleAt};
 ghost use Rattle.lists.specs.Inside.{GoodHead, WeightsOf, Loaded};
 
 pub struct Header {
@@ -117,56 +114,5 @@ pub fn list_check(list: &[u8]) -> ListCheck
     match h {
         HeadRead::Refused(n) => ListCheck::Refused(n),
         HeadRead::Head(head, at) => check_cycles(list, head, at),
-    }
-}
-
-// How many words and split numbers of a cycle were read, and the place after them.
-pub struct CycleAt {
-    pub words: usize,
-    pub splits: usize,
-    pub next: usize,
-}
-
-fn wide(x: u16) -> usize
-    ensures { λ r. ⌜ r ≡ x ⌝ }
-{
-    x as usize
-}
-
-// How many split numbers follow so many words of cycle 2^n.
-fn splits_for(n: usize, count: usize) -> usize
-    ensures { λ r. ⌜ (r ≡ splitsFor n count) × (r ≤ 1024) ⌝ }
-{
-    if n == 0 {
-        return 0;
-    }
-    if count == 0 {
-        return 0;
-    }
-    if 10 < n {
-        return 1024;
-    }
-    1 << n
-}
-
-// The cycle 2^n that stands at a place, with no check: its words and split numbers, as far as they go and there are places for them.
-pub fn cycle_at(list: &[u8], at: usize, n: usize, words: &mut [u16], splits: &mut [u16]) -> CycleAt
-    ensures { λ r. ⌜ (r ≡ cycleAt n (drop at (now (list .entry))) at (length (now (words .entry))) (length (now (splits .entry))))
-        × (now (words .exit) ≡ over (wordsRun (length (now (words .entry))) (drop at (now (list .entry)))) (now (words .entry)))
-        × (now (splits .exit) ≡ over (splitsRun n (length (now (words .entry))) (length (now (splits .entry))) (drop at (now (list .entry)))) (now (splits .entry))) ⌝ }
-{
-    let mut first = [0u16; 1];
-    let c = read_numbers(list, at, &mut first);
-    let count = wide(first[0]);
-    let after_count = c.next;
-    let many = least(count, words.len());
-    let w = read_numbers(list, after_count, &mut words[..many]);
-    let after_words = w.next;
-    let k = least(splits_for(n, count), splits.len());
-    let z = read_numbers(list, after_words, &mut splits[..k]);
-    CycleAt {
-        words: w.count,
-        splits: z.count,
-        next: z.next,
     }
 }

@@ -11,7 +11,7 @@ ghost use Rattle.lists.specs.Rules.{rules};
 ghost use Rattle.lists.specs.Reading.{splitIn, summedIn};
 ghost use Rattle.lists.specs.Inside.{Tells, Sums, Rising, Most, Cut, Added};
 
-pub(crate) fn least(a: usize, b: usize) -> usize
+fn least(a: usize, b: usize) -> usize
     ensures { λ r. ⌜ r ≡ min a b ⌝ }
 {
     if a < b { a } else { b }

@@ -2,3 +2,4 @@ pub mod NumberLaws
 pub mod Answers
 pub mod RunLaws
 pub mod WrittenLaws
+pub mod ThereLaws

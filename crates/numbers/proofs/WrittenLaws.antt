@@ -11,7 +11,7 @@ use lib.Dec.{ltb, eqb}
 use lib.ListN.{length, drop, length-append}
 use lib.Seq.{drop-append-seam, drop-append-add}
 use Rattle.numbers.specs.Number.{Numbers, Taken, bad, taken, number, first, run}
-use Rattle.numbers.specs.Written.{byBool, bytesOf, written, Bytes}
+use Rattle.numbers.specs.Written.{byBool, bytesOf, written, Bytes, Most}
 use Rattle.numbers.proofs.NumberLaws.{none-left, one-byte, cut-one, zero-two, two-bytes, cut-two, zero-three, three-bytes, above-three}
 
 -- ---- the bytes of a number, by its size
@@ -123,10 +123,6 @@ was (a ∷ l) v n k q = by-first (ltb a 128) refl
     by-first false e = rest l (k .1) (ltb-false a 128 e) refl
 
 -- ---- a run of numbers
-abbrev pub Most : List ℕ → Type 0
-Most [] = Unit {0}
-Most (v ∷ vs) = (v ≤ 65535) × Most vs
-
 pub run-back : (vs t : List ℕ) → Most vs → run (length vs) (written vs ++ t) ≡ record { values = vs; used = length (written vs) }
 run-back [] t m = refl
 run-back (v ∷ vs) t m =

@@ -70,3 +70,8 @@ first (taken v n) more = record { values = v ∷ more n .values; used = n + more
 abbrev pub run : ℕ → List ℕ → Numbers
 run zero bytes = record { values = []; used = 0 }
 run (suc k) bytes = first (number bytes) (λ n. run k (drop n bytes))
+
+-- what numbers "add up to"
+abbrev pub sum : List ℕ → ℕ
+sum [] = 0
+sum (x ∷ l) = x + sum l

@@ -1,6 +1,6 @@
 -- Numbers as they are written in a list file (document 01, "The list file").
 -- Assumes nothing.
-use Prim.Native.Nat.{ℕ, _+_, _/_, _%_, _<_}
+use Prim.Native.Nat.{ℕ, _+_, _/_, _%_, _≤_, _<_}
 use mathlib.Core.List.{List, [], _∷_, _++_}
 use mathlib.Core.Bool.{Bool, true, false}
 use lib.Dec.{ltb}
@@ -25,3 +25,8 @@ written (v ∷ vs) = bytesOf v ++ written vs
 abbrev pub Bytes : List ℕ → Type 0
 Bytes [] = Unit {0}
 Bytes (b ∷ l) = (b < 256) × Bytes l
+
+-- numbers that are "at most 65,535"
+abbrev pub Most : List ℕ → Type 0
+Most [] = Unit {0}
+Most (v ∷ vs) = (v ≤ 65535) × Most vs

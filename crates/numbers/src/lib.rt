@@ -4,7 +4,7 @@ ghost use mathlib.Core.Path.{_≡_};
 ghost use mathlib.Core.List.{_++_};
 ghost use Prim.Native.Nat.{_+_, _-_, _*_, _≤_, _<_};
 ghost use lib.ListN.{length, drop};
-ghost use Rattle.numbers.specs.Number.{numberAt, run};
+ghost use Rattle.numbers.specs.Number.{numberAt, run, sum};
 ghost use Rattle.numbers.specs.Answers.{toldNumber};
 
 // A number and the place after it.
@@ -121,4 +121,31 @@ pub fn read_numbers(s: &[u8], at: usize, out: &mut [u16]) -> Run
         i += 1;
     }
     Run { count: i, next: p }
+}
+
+// What some numbers add up to, and the place after them.
+pub struct Summed {
+    pub total: usize,
+    pub next: usize,
+}
+
+// At most k numbers one after another, as far as they go, added up.
+pub fn sum_numbers(s: &[u8], at: usize, k: u16) -> Summed
+    ensures { λ r. ⌜ (r .total ≡ sum (run k (drop at (now (s .entry))) .values)) × (r .next ≡ at + run k (drop at (now (s .entry))) .used) ⌝ }
+{
+    let mut place = at;
+    let mut total: usize = 0;
+    let mut i: u16 = 0;
+    while i < k {
+        let r = read_number(s, place);
+        match r {
+            Number::Refused(_) => return Summed { total, next: place },
+            Number::Value(v, next) => {
+                total += v as usize;
+                place = next;
+            }
+        }
+        i += 1;
+    }
+    Summed { total, next: place }
 }

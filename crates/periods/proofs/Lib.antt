@@ -1,4 +1,5 @@
 pub mod CopyLaws
+pub mod HereLaws
 pub mod SubcycleLaws
 pub mod PeriodLaws
 pub mod OnceLaws

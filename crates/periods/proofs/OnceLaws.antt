@@ -13,15 +13,16 @@ use lib.ListN.{length, getD, take, drop, length-append}
 use lib.Pow.{pow-pos, mod-mod-pow}
 use lib.Seq.{take-add, take-all}
 use Rattle.numbers.specs.Written.{Bytes}
-use Rattle.lists.specs.Values.{Cycle, PeriodicList, cyclesOf, periodsOf, byMs, wordsOf, sum}
+use Rattle.numbers.specs.Number.{sum}
+use Rattle.lists.specs.Values.{Cycle, PeriodicList, cyclesOf, periodsOf, byMs, wordsOf}
 use Rattle.lists.specs.Rules.{listable, clash, clashes}
 use Rattle.lists.specs.Reading.{took}
 use Rattle.lists.specs.Accepts.{accepted}
 use Rattle.lists.specs.Sends.{cutBy, subcycles, subcycle, sentFrom, sends, takes}
-use Rattle.lists.specs.Written.{All, Listable, Clash, Split, CycleObeys, CyclesObey, Obeys}
-use Rattle.lists.proofs.ClashLaws.{listable-prop, prop-listable}
+use Rattle.list_laws.specs.Written.{All, Listable, Clash, Split, CycleObeys, CyclesObey, Obeys}
+use Rattle.list_laws.proofs.ClashLaws.{listable-prop, prop-listable}
 use Rattle.lists.proofs.SentLaws.{words-append}
-use Rattle.lists.proofs.Acceptance.{accepted-obeys, obey-listable}
+use Rattle.list_laws.proofs.Acceptance.{accepted-obeys, obey-listable}
 use Rattle.periods.specs.Once.{one, times, sentIn, OnceIn}
 use Rattle.periods.proofs.PeriodLaws.{sent-append, obey-right}
 

@@ -5,6 +5,7 @@ use mathlib.Core.Path.{_≡_, refl, ap, sym, _∙_, subst}
 use mathlib.Core.List.{List, [], _∷_, _++_, append-assoc, append-nil}
 use mathlib.Core.Bool.{Bool, true, false}
 use native.Mathlib.Numerals.{add-one}
+use native.Mathlib.Nat.{mod-lt}
 use native.Mathlib.Omega.{arith}
 use borrow.Author.Tests.{lt-ltb, le-ltb, le-leb, lt-leb}
 use lib.Dec.{ltb, leb}
@@ -15,28 +16,24 @@ use lib.Seq.{drop-append-le, take-all, take-at, drop-append-seam, drop-drop, len
 use Rattle.refusals.specs.declared.Refusal.{Refusal}
 use Rattle.refusals.specs.Refusals.{numberOf}
 use Rattle.refusals.specs.Told.{Told, gives, refusing, refusal}
-use Rattle.numbers.specs.Number.{Numbers, run}
-use Rattle.numbers.specs.Written.{bytesOf, written, Bytes}
-use Rattle.numbers.proofs.RunLaws.{Done}
-use Rattle.numbers.proofs.WrittenLaws.{Most, run-back, written-append}
+use Rattle.numbers.specs.Written.{written, Bytes, Most}
+use Rattle.numbers.proofs.RunLaws.{Added}
+use Rattle.numbers.proofs.WrittenLaws.{written-append}
+use Rattle.numbers.proofs.ThereLaws.{sum-there}
 use Rattle.lists.specs.declared.Header.{Header}
 use Rattle.lists.specs.declared.ListCheck.{ListCheck}
 use Rattle.lists.specs.declared.ListCheck.the-variants.{Accepted, Refused}
-use Rattle.lists.specs.declared.CycleAt.{CycleAt}
 use Rattle.lists.specs.Values.{Cycle, PeriodicList, cyclesOf, periodsOf, byMs, wordsOf}
 use Rattle.lists.specs.Reading.{Read, denied, took}
 use Rattle.lists.specs.Sends.{subcycle, sentFrom, sends}
 use Rattle.lists.specs.Accepts.{accepted}
 use Rattle.lists.specs.Answers.{toldCheck, toldRead}
-use Rattle.lists.proofs.PlainLaws.{CycleRead}
-use Rattle.lists.specs.Written.{cycleNumbers, cyclesNumbers, listNumbers, file, CycleObeys, CyclesObey, Obeys}
+use Rattle.list_laws.specs.Written.{cycleNumbers, cyclesNumbers, listNumbers, file, CycleObeys, CyclesObey, Obeys}
 use Rattle.lists.proofs.SentLaws.{sent-snoc}
 use Rattle.lists.proofs.ListLaws.{cycles-most}
-use Rattle.lists.proofs.Acceptance.{accepted-obeys, obeys-accepted, one-list}
-use Rattle.lists.proofs.PlainLaws.{cycle-there}
+use Rattle.list_laws.proofs.Acceptance.{accepted-obeys, obeys-accepted, one-list}
 use Rattle.periods.specs.Period.{periodBy, askedBy}
-use Rattle.periods.specs.Inside.{InSubcycle, IsList, PeriodWords}
-use Rattle.periods.proofs.SubcycleLaws.{in-subcycle}
+use Rattle.periods.specs.Inside.{CycleHere, SubFits, PartSent, IsList, PeriodWords}
 
 pub sent-append : (cs ds : List Cycle) (m j : ℕ) → sentFrom m j (cs ++ ds) ≡ sentFrom m j cs ++ sentFrom (m + length cs) j ds
 sent-append [] ds m j = let e : m ≡ m + 0 = omega arith in ap (λ (k : ℕ). sentFrom k j ds) e
@@ -53,18 +50,15 @@ obey-right n (c ∷ cs) ds o = let e : suc n + length cs ≡ n + suc (length cs)
 header-most : (l : PeriodicList) → Obeys l → Most (1 ∷ l .head .ms ∷ l .head .gap ∷ l .head .reserve ∷ [])
 header-most l o = (omega arith, (omega (arith, o .ms .1), (omega (arith, o .gap .1), (omega (arith, o .reserve .1, o .ms .1), tt))))
 
-pub after-header : (s : List ℕ) (ms : ℕ) (k : IsList s ms) (header out : List ℕ) → length header ≡ 4 → (count next : ℕ) → Done s 0 header out count next → drop next s ≡ written (cyclesNumbers (k .l .cycles))
-after-header s ms k header out e count next d =
+pub after-header : (s : List ℕ) (ms : ℕ) (k : IsList s ms) (total next : ℕ) → Added s 0 4 total next → drop next s ≡ written (cyclesNumbers (k .l .cycles))
+after-header s ms k total next d =
     let l : PeriodicList = k .l in
     let four : List ℕ = 1 ∷ l .head .ms ∷ l .head .gap ∷ l .head .reserve ∷ [] in
-    let w : s ≡ written four ++ written (cyclesNumbers (l .cycles)) = sym (k .written-so) ∙ written-append four (cyclesNumbers (l .cycles)) in
-    let r : run (length header) s ≡ record { values = four; used = length (written four) } =
-    ap (λ (n : ℕ). run n s) e ∙ ap (run 4) w ∙ run-back four (written (cyclesNumbers (l .cycles))) (header-most l (k .obeys)) in
-    let n : next ≡ length (written four) = omega (arith, d .1, ap (λ (x : Numbers). x .used) r) in
-    ap (λ (x : ℕ). drop x s) n ∙ ap (drop (length (written four))) w ∙ drop-append-seam (written four) (written (cyclesNumbers (l .cycles)))
+    let w : drop 0 s ≡ written four ++ written (cyclesNumbers (l .cycles)) = sym (k .written-so) ∙ written-append four (cyclesNumbers (l .cycles)) in
+    sum-there s four (written (cyclesNumbers (l .cycles))) 0 (header-most l (k .obeys)) w 4 total next refl d .1
 
 -- ---- the loop
-pub record Inv (s : List ℕ) (ms j cycles : ℕ) (out₀ out words splits : List ℕ) (p k n size : ℕ) : Type 0 where
+pub record Inv (s : List ℕ) (ms j cycles : ℕ) (out₀ out : List ℕ) (p k n size : ℕ) : Type 0 where
   pub known : IsList s ms
   pub here : j < periodsOf ms
   pub room : length out₀ ≡ 64
@@ -72,8 +66,6 @@ pub record Inv (s : List ℕ) (ms j cycles : ℕ) (out₀ out words splits : Lis
   pub all-cycles : cycles ≡ cyclesOf ms
   pub below : n ≤ cycles
   pub power : size ≡ 2 ^ n
-  pub words-long : length words ≡ 256
-  pub splits-long : length splits ≡ 1024
   pub done : List Cycle
   pub todo : List Cycle
   pub both : known .l .cycles ≡ done ++ todo
@@ -83,9 +75,8 @@ pub record Inv (s : List ℕ) (ms j cycles : ℕ) (out₀ out words splits : Lis
   pub sent : out ≡ sentFrom 0 j done ++ drop k out₀
 
 module _ (s : List ℕ) (ms j cycles : ℕ) (out₀ : List ℕ) where
-  pub start : (k : IsList s ms) → j < periodsOf ms → length out₀ ≡ 64 → cycles ≡ cyclesOf ms → (words splits : List ℕ) → length words ≡ 256 → length splits ≡ 1024
-      → (p : ℕ) → drop p s ≡ written (cyclesNumbers (k .l .cycles)) → Inv s ms j cycles out₀ out₀ words splits p 0 0 1
-  start k h r c words splits lw ls p b =
+  pub start : (k : IsList s ms) → j < periodsOf ms → length out₀ ≡ 64 → cycles ≡ cyclesOf ms → (p : ℕ) → drop p s ≡ written (cyclesNumbers (k .l .cycles)) → Inv s ms j cycles out₀ out₀ p 0 0 1
+  start k h r c p b =
       record {
         known = k;
         here = h;
@@ -94,8 +85,6 @@ module _ (s : List ℕ) (ms j cycles : ℕ) (out₀ : List ℕ) where
         all-cycles = c;
         below = omega arith;
         power = refl;
-        words-long = lw;
-        splits-long = ls;
         done = [];
         todo = k .l .cycles;
         both = refl;
@@ -105,7 +94,7 @@ module _ (s : List ℕ) (ms j cycles : ℕ) (out₀ : List ℕ) where
         sent = refl;
       }
 
-  module _ (out words splits : List ℕ) (p k n size : ℕ) (inv : Inv s ms j cycles out₀ out words splits p k n size) where
+  module _ (out : List ℕ) (p k n size : ℕ) (inv : Inv s ms j cycles out₀ out p k n size) where
     l : PeriodicList
     l = inv .known .l
 
@@ -163,126 +152,104 @@ module _ (s : List ℕ) (ms j cycles : ℕ) (out₀ : List ℕ) where
       unfolding c later
       bytes-here = inv .bytes ∙ ap (λ (x : List Cycle). written (cyclesNumbers x)) (next .is) ∙ written-append (cycleNumbers (next .c)) (cyclesNumbers (next .later))
 
-      module _ (r : CycleAt) (words' splits' : List ℕ) (d : CycleRead n (drop p s) p r words words' splits splits') where
-        there : (r .words ≡ length (c .words)) × (r .splits ≡ length (c .splits)) × (r .next ≡ p + length (written (cycleNumbers c)))
-            × (words' ≡ c .words ++ drop (length (c .words)) words) × (splits' ≡ c .splits ++ drop (length (c .splits)) splits)
-        unfolding c
-        there =
-            cycle-there n (next .c) (next .obeys) small-n (written (cyclesNumbers later)) p r words words' splits splits' (inv .words-long) (inv .splits-long)
-            (subst (λ (x : List ℕ). CycleRead n x p r words words' splits splits') bytes-here d)
+      all-sent : sends l j ≡ sentFrom 0 j (inv .done) ++ (subcycle c (j % 2 ^ n) ++ sentFrom (suc n) j later)
+      unfolding l c later
+      all-sent =
+          let z : 0 + length (inv .done) ≡ n = omega (arith, inv .many) in
+          ap (sentFrom 0 j) (inv .both ∙ ap (λ (x : List Cycle). inv .done ++ x) (next .is)) ∙ sent-append (inv .done) (next .c ∷ next .later) 0 j
+          ∙ ap (λ (m : ℕ). sentFrom 0 j (inv .done) ++ sentFrom m j (next .c ∷ next .later)) z
 
-        pub words-room : r .words ≤ length words'
-        words-room = omega (arith, there .0, ap length (there .3), length-append (c .words) (drop (length (c .words)) words))
+      few-sent : length (sends l j) ≤ 64
+      unfolding l
+      few-sent = inv .known .obeys .frames j (subst (λ (x : ℕ). j < periodsOf x) (inv .known .same) (inv .here))
 
-        pub splits-room : r .splits ≤ length splits'
-        splits-room = omega (arith, there .1, ap length (there .4), length-append (c .splits) (drop (length (c .splits)) splits))
+      pub k-room : k ≤ length out
+      k-room = omega (arith, inv .count, inv .long, ap length all-sent, few-sent, length-append (sentFrom 0 j (inv .done)) (subcycle c (j % 2 ^ n) ++ sentFrom (suc n) j later))
 
-        the-words : take (r .words) words' ≡ c .words
-        the-words = ap (take (r .words)) (there .3) ∙ take-at (c .words) (drop (length (c .words)) words) (r .words) (sym (there .0))
+      room-left : k + length (subcycle c (j % 2 ^ n)) ≤ 64
+      room-left =
+          omega (
+            arith,
+            inv .count,
+            ap length all-sent,
+            few-sent,
+            length-append (sentFrom 0 j (inv .done)) (subcycle c (j % 2 ^ n) ++ sentFrom (suc n) j later),
+            length-append (subcycle c (j % 2 ^ n)) (sentFrom (suc n) j later),
+          )
 
-        the-splits : take (r .splits) splits' ≡ c .splits
-        the-splits = ap (take (r .splits)) (there .4) ∙ take-at (c .splits) (drop (length (c .splits)) splits) (r .splits) (sym (there .1))
+      sub-is : subcycle c (j % size) ≡ subcycle c (j % 2 ^ n)
+      sub-is = ap (λ (x : ℕ). subcycle c (j % x)) (inv .power)
 
-        sub-is : subcycle (record { words = take (r .words) words'; splits = take (r .splits) splits' }) (j % size) ≡ subcycle c (j % 2 ^ n)
-        sub-is =
-            ap (λ (x : ℕ). subcycle (record { words = take (r .words) words'; splits = take (r .splits) splits' }) (j % x)) (inv .power)
-            ∙ ap (λ (ws : List ℕ). subcycle (record { words = ws; splits = take (r .splits) splits' }) (j % 2 ^ n)) the-words
-            ∙ ap (λ (zs : List ℕ). subcycle (record { words = c .words; splits = zs }) (j % 2 ^ n)) the-splits
+      -- the places of out from k on
+      rest-is : take (length out - k) (drop k out) ≡ drop k out
+      rest-is = take-all (length out - k) (drop k out) (omega (arith, length-drop k out))
 
-        pub in-sub : InSubcycle (take (r .words) words') (take (r .splits) splits') (j % size)
-        unfolding c
-        in-sub =
-            subst (λ (x : ℕ). InSubcycle (take (r .words) words') (take (r .splits) splits') (j % x)) (sym (inv .power))
-            (subst (λ (ws : List ℕ). InSubcycle ws (take (r .splits) splits') (j % 2 ^ n)) (sym the-words)
-            (subst (λ (zs : List ℕ). InSubcycle (c .words) zs (j % 2 ^ n)) (sym the-splits) (in-subcycle n (next .c) j small-n (next .obeys))))
+      pub cycle-here : CycleHere s p size
+      unfolding c later
+      cycle-here = record { n = n; c = next .c; rest = written (cyclesNumbers (next .later)); small = small-n; power = inv .power; obeys = next .obeys; bytes = bytes-here }
 
-        all-sent : sends l j ≡ sentFrom 0 j (inv .done) ++ (subcycle c (j % 2 ^ n) ++ sentFrom (suc n) j later)
-        unfolding l c later
-        all-sent =
+      pub sub-fits : SubFits (cycle-here .c) size (j % size) (length (take (length out - k) (drop k out)))
+      unfolding c cycle-here
+      sub-fits = (mod-lt j (omega (arith, inv .power, pow-pos n)), omega (arith, room-left, ap length sub-is, ap length rest-is, length-drop k out, inv .long))
+
+      module _ (part' : List ℕ) (m at : ℕ) (g : PartSent s (cycle-here .c) (j % size) (cycle-here .rest) (take (length out - k) (drop k out)) part' m at) where
+        sent-part : (m ≡ length (subcycle c (j % 2 ^ n))) × (drop at s ≡ written (cyclesNumbers later)) × (part' ≡ subcycle c (j % 2 ^ n) ++ drop m (drop k out))
+        unfolding c later cycle-here
+        sent-part = (
+          g .0 ∙ ap length sub-is,
+          g .1,
+          g .2 ∙ ap (λ (x : List ℕ). x ++ drop m (take (length out - k) (drop k out))) sub-is ∙ ap (λ (x : List ℕ). subcycle c (j % 2 ^ n) ++ drop m x) rest-is,
+        )
+
+        out' : List ℕ
+        out' = putMid k (length out - k) out part'
+
+        out-is : out' ≡ take k out ++ part'
+        unfolding out'
+        out-is =
+            let a : length (drop k out) ≤ length out - k = omega (arith, length-drop k out) in
+            let e : drop (length out - k) (drop k out) ≡ [] = drop-of-length-le (drop k out) a in
+            ap (λ (x : List ℕ). take k out ++ (part' ++ x)) e ∙ ap (λ (x : List ℕ). take k out ++ x) (append-nil part')
+
+        pub m-few : k + m ≤ 64
+        m-few = omega (arith, room-left, sent-part .0)
+
+        front : take k out ≡ sentFrom 0 j (inv .done)
+        front = ap (take k) (inv .sent) ∙ take-at (sentFrom 0 j (inv .done)) (drop k out₀) k (sym (inv .count))
+
+        back : drop k out ≡ drop k out₀
+        back = ap (drop k) (inv .sent) ∙ ap (λ (x : ℕ). drop x (sentFrom 0 j (inv .done) ++ drop k out₀)) (inv .count) ∙ drop-append-seam (sentFrom 0 j (inv .done)) (drop k out₀)
+
+        now-sent : out' ≡ (sentFrom 0 j (inv .done) ++ subcycle c (j % 2 ^ n)) ++ drop (k + m) out₀
+        now-sent =
+            out-is ∙ ap (λ (x : List ℕ). x ++ part') front ∙ ap (λ (x : List ℕ). sentFrom 0 j (inv .done) ++ x) (sent-part .2)
+            ∙ sym (append-assoc (sentFrom 0 j (inv .done)) (subcycle c (j % 2 ^ n)) (drop m (drop k out)))
+            ∙ ap (λ (x : List ℕ). (sentFrom 0 j (inv .done) ++ subcycle c (j % 2 ^ n)) ++ x) (ap (drop m) back ∙ drop-drop m k out₀)
+
+        snoc : sentFrom 0 j (inv .done ++ c ∷ []) ≡ sentFrom 0 j (inv .done) ++ subcycle c (j % 2 ^ n)
+        snoc =
             let z : 0 + length (inv .done) ≡ n = omega (arith, inv .many) in
-            ap (sentFrom 0 j) (inv .both ∙ ap (λ (x : List Cycle). inv .done ++ x) (next .is)) ∙ sent-append (inv .done) (next .c ∷ next .later) 0 j
-            ∙ ap (λ (m : ℕ). sentFrom 0 j (inv .done) ++ sentFrom m j (next .c ∷ next .later)) z
+            sent-snoc (inv .done) c 0 j ∙ ap (λ (x : ℕ). sentFrom 0 j (inv .done) ++ subcycle c (j % 2 ^ x)) z
 
-        few-sent : length (sends l j) ≤ 64
-        unfolding l
-        few-sent = inv .known .obeys .frames j (subst (λ (x : ℕ). j < periodsOf x) (inv .known .same) (inv .here))
-
-        pub k-room : k ≤ length out
-        k-room = omega (arith, inv .count, inv .long, ap length all-sent, few-sent, length-append (sentFrom 0 j (inv .done)) (subcycle c (j % 2 ^ n) ++ sentFrom (suc n) j later))
-
-        room-left : k + length (subcycle c (j % 2 ^ n)) ≤ 64
-        room-left =
-            omega (
-              arith,
-              inv .count,
-              ap length all-sent,
-              few-sent,
-              length-append (sentFrom 0 j (inv .done)) (subcycle c (j % 2 ^ n) ++ sentFrom (suc n) j later),
-              length-append (subcycle c (j % 2 ^ n)) (sentFrom (suc n) j later),
-            )
-
-        -- the places of out from k on
-        rest-is : take (length out - k) (drop k out) ≡ drop k out
-        rest-is = take-all (length out - k) (drop k out) (omega (arith, length-drop k out))
-
-        pub sub-room : length (subcycle (record { words = take (r .words) words'; splits = take (r .splits) splits' }) (j % size)) ≤ length (take (length out - k) (drop k out))
-        sub-room = omega (arith, room-left, ap length sub-is, ap length rest-is, length-drop k out, inv .long)
-
-        module _ (part' : List ℕ) (m : ℕ) (g : m ≡ length (subcycle (record { words = take (r .words) words'; splits = take (r .splits) splits' }) (j % size)))
-            (part-is : part' ≡ subcycle (record { words = take (r .words) words'; splits = take (r .splits) splits' }) (j % size) ++ drop m (take (length out - k) (drop k out))) where
-          out' : List ℕ
-          out' = putMid k (length out - k) out part'
-
-          out-is : out' ≡ take k out ++ part'
-          unfolding out'
-          out-is =
-              let a : length (drop k out) ≤ length out - k = omega (arith, length-drop k out) in
-              let e : drop (length out - k) (drop k out) ≡ [] = drop-of-length-le (drop k out) a in
-              ap (λ (x : List ℕ). take k out ++ (part' ++ x)) e ∙ ap (λ (x : List ℕ). take k out ++ x) (append-nil part')
-
-          pub m-few : k + m ≤ 64
-          m-few = omega (arith, room-left, ap length sub-is)
-
-          front : take k out ≡ sentFrom 0 j (inv .done)
-          front = ap (take k) (inv .sent) ∙ take-at (sentFrom 0 j (inv .done)) (drop k out₀) k (sym (inv .count))
-
-          back : drop k out ≡ drop k out₀
-          back = ap (drop k) (inv .sent) ∙ ap (λ (x : ℕ). drop x (sentFrom 0 j (inv .done) ++ drop k out₀)) (inv .count) ∙ drop-append-seam (sentFrom 0 j (inv .done)) (drop k out₀)
-
-          now-sent : out' ≡ (sentFrom 0 j (inv .done) ++ subcycle c (j % 2 ^ n)) ++ drop (k + m) out₀
-          now-sent =
-              out-is ∙ ap (λ (x : List ℕ). x ++ part') front ∙ ap (λ (x : List ℕ). sentFrom 0 j (inv .done) ++ x) (part-is ∙ ap (λ (x : List ℕ). x ++ drop m (take (length out - k) (drop k out))) sub-is ∙ ap (λ (x : List ℕ). subcycle c (j % 2 ^ n) ++ drop m x) rest-is)
-              ∙ sym (append-assoc (sentFrom 0 j (inv .done)) (subcycle c (j % 2 ^ n)) (drop m (drop k out)))
-              ∙ ap (λ (x : List ℕ). (sentFrom 0 j (inv .done) ++ subcycle c (j % 2 ^ n)) ++ x) (ap (drop m) back ∙ drop-drop m k out₀)
-
-          snoc : sentFrom 0 j (inv .done ++ c ∷ []) ≡ sentFrom 0 j (inv .done) ++ subcycle c (j % 2 ^ n)
-          snoc =
-              let z : 0 + length (inv .done) ≡ n = omega (arith, inv .many) in
-              sent-snoc (inv .done) c 0 j ∙ ap (λ (x : ℕ). sentFrom 0 j (inv .done) ++ subcycle c (j % 2 ^ x)) z
-
-          pub more : length words' ≡ length words → length splits' ≡ length splits → length part' ≡ length (take (length out - k) (drop k out))
-              → Inv s ms j cycles out₀ (putMid k (length out - k) out part') words' splits' (r .next) (k + m) (n + 1) (size + size)
-          unfolding c later out'
-          more lw ls lp =
-              record {
-                known = inv .known;
-                here = inv .here;
-                room = inv .room;
-                long = same-len-mid k (length out - k) out part' lp ∙ inv .long;
-                all-cycles = inv .all-cycles;
-                below = omega arith;
-                power = let e : n + 1 ≡ suc n = omega arith in omega (arith, inv .power, ap (λ (x : ℕ). 2 ^ x) e);
-                words-long = lw ∙ inv .words-long;
-                splits-long = ls ∙ inv .splits-long;
-                done = inv .done ++ next .c ∷ [];
-                todo = next .later;
-                both = inv .both ∙ ap (λ (x : List Cycle). inv .done ++ x) (next .is) ∙ sym (append-assoc (inv .done) (next .c ∷ []) (next .later));
-                many = omega (arith, length-append (inv .done) (next .c ∷ []), inv .many);
-                bytes = ap (λ (x : ℕ). drop x s) (there .2) ∙ sym (drop-drop (length (written (cycleNumbers (next .c)))) p s) ∙ ap (drop (length (written (cycleNumbers (next .c))))) bytes-here
-                    ∙ drop-append-seam (written (cycleNumbers (next .c))) (written (cyclesNumbers (next .later)));
-                count = omega (arith, inv .count, ap length snoc, length-append (sentFrom 0 j (inv .done)) (subcycle (next .c) (j % 2 ^ n)), g, ap length sub-is);
-                sent = now-sent ∙ ap (λ (x : List ℕ). x ++ drop (k + m) out₀) (sym snoc);
-              }
+        pub more : length part' ≡ length (take (length out - k) (drop k out)) → Inv s ms j cycles out₀ (putMid k (length out - k) out part') at (k + m) (n + 1) (size + size)
+        unfolding c later out'
+        more lp =
+            record {
+              known = inv .known;
+              here = inv .here;
+              room = inv .room;
+              long = same-len-mid k (length out - k) out part' lp ∙ inv .long;
+              all-cycles = inv .all-cycles;
+              below = omega arith;
+              power = let e : n + 1 ≡ suc n = omega arith in omega (arith, inv .power, ap (λ (x : ℕ). 2 ^ x) e);
+              done = inv .done ++ next .c ∷ [];
+              todo = next .later;
+              both = inv .both ∙ ap (λ (x : List Cycle). inv .done ++ x) (next .is) ∙ sym (append-assoc (inv .done) (next .c ∷ []) (next .later));
+              many = omega (arith, length-append (inv .done) (next .c ∷ []), inv .many);
+              bytes = sent-part .1;
+              count = omega (arith, inv .count, ap length snoc, length-append (sentFrom 0 j (inv .done)) (subcycle (next .c) (j % 2 ^ n)), sent-part .0);
+              sent = now-sent ∙ ap (λ (x : List ℕ). x ++ drop (k + m) out₀) (sym snoc);
+            }
 
 -- ---- asking for a Basic Period
 abbrev pub Answer : List ℕ → ℕ → List ℕ → Told → List ℕ → Type 0

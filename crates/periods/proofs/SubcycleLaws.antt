@@ -1,19 +1,21 @@
--- The words of a Subcycle, by the split numbers before it.
+-- The words of a Subcycle, by the split numbers before it, as they stand in a file.
 -- Assumes nothing.
-use Prim.Native.Nat.{ℕ, zero, suc, _+_, _-_, _^_, _%_, _≤_, _<_}
+use Prim.Native.Nat.{ℕ, zero, suc, _+_, _-_, _≤_, _<_}
 use mathlib.Core.Path.{_≡_, refl, ap, sym, _∙_, subst}
 use mathlib.Core.List.{List, [], _∷_, _++_}
-use native.Mathlib.Nat.{mod-lt, mod-one}
 use native.Mathlib.Omega.{arith}
-use lib.ListN.{length, getD, take, drop, length-take, length-drop}
-use lib.Pow.{pow-pos, pow-mono}
-use lib.Seq.{drop-drop}
-use Rattle.lists.specs.Values.{Cycle, sum}
+use lib.ListN.{length, getD, take, drop, length-take, length-drop, take-append-drop}
+use lib.Seq.{drop-drop, drop-cons, length-take-le}
+use Rattle.numbers.specs.Number.{sum}
+use Rattle.numbers.specs.Written.{written, Most}
+use Rattle.numbers.proofs.RunLaws.{Done, Added}
+use Rattle.numbers.proofs.ThereLaws.{most-left, most-right, cut-written, sum-there, read-there}
 use Rattle.lists.specs.Sends.{cutBy, subcycles, subcycle}
-use Rattle.lists.specs.Written.{Split, CycleObeys}
-use Rattle.periods.specs.Inside.{InSubcycle}
+use Rattle.list_laws.proofs.Acceptance.{words-most}
+use Rattle.periods.specs.Inside.{CycleHere, SplitHere, SubFits, PartSent}
+use Rattle.periods.proofs.HereLaws.{shape, splits-most, all-words-most, after-words, count-there, no-split, only-words, no-word, nothing-here}
 
-pub cut-at : (ws zs : List ℕ) (s : ℕ) → s < length zs → getD (cutBy ws zs) s [] ≡ take (getD zs s 0) (drop (sum (take s zs)) ws)
+cut-at : (ws zs : List ℕ) (s : ℕ) → s < length zs → getD (cutBy ws zs) s [] ≡ take (getD zs s 0) (drop (sum (take s zs)) ws)
 cut-at ws [] s h = absurd (omega arith)
 cut-at ws (z ∷ zs) zero h = refl
 cut-at ws (z ∷ zs) (suc s) h = cut-at (drop z ws) zs s (omega arith) ∙ ap (take (getD zs s 0)) (drop-drop (sum (take s zs)) z ws)
@@ -23,64 +25,134 @@ sum-at [] s h = absurd (omega arith)
 sum-at (z ∷ zs) zero h = omega arith
 sum-at (z ∷ zs) (suc s) h = omega (arith, sum-at zs s (omega arith))
 
-pub few-splits : (zs : List ℕ) (s : ℕ) → length zs ≤ 1024 → length (take s zs) ≤ 1024
-few-splits zs s h = omega (arith, length-take s zs)
-
 cut-whole : (ws zs : List ℕ) (s : ℕ) → (length zs ≡ 0 → ⊥) → getD (subcycles ws zs) s [] ≡ getD (cutBy ws zs) s []
 cut-whole ws [] s h = absurd (h refl)
 cut-whole ws (z ∷ zs) s h = refl
 
-module _ (ws zs : List ℕ) (sub : ℕ) (k : InSubcycle ws zs sub) where
-  pub all-of-it : length zs ≡ 0 → (out out' : List ℕ) → out' ≡ ws ++ drop (length ws) out
-      → (length ws ≡ length (subcycle (record { words = ws; splits = zs }) sub)) × (out' ≡ subcycle (record { words = ws; splits = zs }) sub ++ drop (length ws) out)
-  all-of-it e out out' q =
-      let w : subcycle (record { words = ws; splits = zs }) sub ≡ ws = k .whole e in
-      (sym (ap length w), q ∙ ap (λ (x : List ℕ). x ++ drop (length ws) out) (sym w))
+-- ---- a cycle with split numbers
+module _ (s : List ℕ) (at count size sub room : ℕ) (h : SplitHere s at count size) (f : SubFits (h .c) size sub room) where
+  ws : List ℕ
+  ws = h .c .words
 
-  pub all-room : length zs ≡ 0 → (out : List ℕ) → length (subcycle (record { words = ws; splits = zs }) sub) ≤ length out → length ws ≤ length out
-  all-room e out h = omega (arith, ap length (k .whole e))
+  zs : List ℕ
+  zs = h .c .splits
 
-  module _ (h : length zs ≡ 0 → ⊥) (from many : ℕ) (f : from ≡ sum (take sub zs)) (m : many ≡ getD zs sub 0) where
-    pub fits : from + many ≤ length ws
-    fits = omega (arith, sum-at zs sub (k .inside h), k .within)
+  zs-most : Most zs
+  unfolding zs
+  zs-most = splits-most s at count size h
 
-    part : take (from + many - from) (drop from ws) ≡ subcycle (record { words = ws; splits = zs }) sub
+  ws-most : Most ws
+  unfolding ws
+  ws-most = all-words-most s at count size h
+
+  inside : sub < length zs
+  unfolding zs
+  inside = omega (arith, f .0, shape s at count size h .0)
+
+  -- the words before the Subcycle, and its own
+  from : ℕ
+  from = sum (take sub zs)
+
+  own : ℕ
+  own = getD zs sub 0
+
+  within : from + own ≤ length ws
+  unfolding from own ws zs
+  within = omega (arith, sum-at zs sub inside, shape s at count size h .2)
+
+  the-words : subcycle (h .c) sub ≡ take own (drop from ws)
+  unfolding subcycle ws zs from own
+  the-words = cut-whole ws zs sub (λ e. omega (arith, inside)) ∙ cut-at ws zs sub inside
+
+  own-long : length (take own (drop from ws)) ≡ own
+  own-long = omega (arith, length-take own (drop from ws), length-drop from ws, within)
+
+  own-fits : own ≤ room
+  own-fits = omega (arith, f .1, ap length the-words, own-long)
+
+  module _ (t₁ p₁ : ℕ) (a₁ : Added s at count t₁ p₁) (t₂ p₂ : ℕ) (a₂ : Added s p₁ sub t₂ p₂) where
+    before : (t₂ ≡ from) × (drop p₂ s ≡ written (drop sub zs) ++ h .rest)
+    unfolding from zs
+    before =
+        let l : length (take sub zs) ≡ sub = length-take-le sub zs (omega (arith, inside)) in
+        let m : Most (take sub zs) = most-left (take sub zs) (drop sub zs) (subst Most (sym (take-append-drop sub zs)) zs-most) in
+        sum-there s (take sub zs) (written (drop sub zs) ++ h .rest) p₁ m (after-words s at count size h t₁ p₁ a₁ ∙ cut-written sub zs (h .rest)) sub t₂ p₂ (sym l) a₂
+
+    pub before-small : t₂ ≤ 256
+    unfolding ws
+    before-small = omega (arith, before .0, within, h .obeys .count)
+
+    module _ (t₃ p₃ : ℕ) (a₃ : Added s p₂ 1 t₃ p₃) where
+      own-here : drop sub zs ≡ own ∷ drop (suc sub) zs
+      unfolding own
+      own-here = drop-cons zs sub 0 inside
+
+      rest-most : Most (own ∷ drop (suc sub) zs)
+      rest-most = subst Most own-here (most-right (take sub zs) (drop sub zs) (subst Most (sym (take-append-drop sub zs)) zs-most))
+
+      here : (t₃ ≡ own) × (drop p₃ s ≡ written (drop (suc sub) zs) ++ h .rest)
+      here =
+          let e : drop p₂ s ≡ written (own ∷ []) ++ (written (drop (suc sub) zs) ++ h .rest) =
+          before .1 ∙ ap (λ (l : List ℕ). written l ++ h .rest) own-here ∙ cut-written 1 (own ∷ drop (suc sub) zs) (h .rest) in
+          let x = sum-there s (own ∷ []) (written (drop (suc sub) zs) ++ h .rest) p₂ (rest-most .0, tt) e 1 t₃ p₃ refl a₃ in
+          (omega (arith, x .0), x .1)
+
+      pub here-fits : t₃ ≤ room
+      here-fits = omega (arith, here .0, own-fits)
+
+      module _ (t₄ p₄ : ℕ) (a₄ : Added s p₃ (size - sub - 1) t₄ p₄) (t₅ p₅ : ℕ) (a₅ : Added s at t₂ t₅ p₅) where
+        after-all : drop p₄ s ≡ h .rest
+        unfolding zs
+        after-all =
+            let l : size - sub - 1 ≡ length (drop (suc sub) zs) = omega (arith, length-drop (suc sub) zs, shape s at count size h .0) in
+            sum-there s (drop (suc sub) zs) (h .rest) p₃ (rest-most .1) (here .1) (size - sub - 1) t₄ p₄ l a₄ .1
+
+        first-there : drop p₅ s ≡ written (drop from ws) ++ (written zs ++ h .rest)
+        unfolding ws zs
+        first-there =
+            let l : t₂ ≡ length (take from ws) = omega (arith, before .0, length-take-le from ws (omega (arith, within))) in
+            let m : Most (take from ws) = most-left (take from ws) (drop from ws) (subst Most (sym (take-append-drop from ws)) ws-most) in
+            sum-there s (take from ws) (written (drop from ws) ++ (written zs ++ h .rest)) at m (h .bytes ∙ cut-written from ws (written zs ++ h .rest)) t₂ t₅ p₅ l a₅ .1
+
+        pub part-sent : (out part : List ℕ) (k p₆ : ℕ) → length out ≡ room → Done s p₅ (take t₃ out) part k p₆ → PartSent s (h .c) sub (h .rest) out (part ++ drop t₃ out) t₃ p₄
+        part-sent out part k p₆ r d =
+            let u : List ℕ = take own (drop from ws) in
+            let v : List ℕ = drop own (drop from ws) in
+            let l : length (take t₃ out) ≡ length u = length-take-le t₃ out (omega (arith, here-fits)) ∙ here .0 ∙ sym own-long in
+            let q : Most (drop from ws) = most-right (take from ws) (drop from ws) (subst Most (sym (take-append-drop from ws)) ws-most) in
+            let m : Most u = most-left u v (subst Most (sym (take-append-drop own (drop from ws))) q) in
+            let x = read-there s u (written v ++ (written zs ++ h .rest)) p₅ m (first-there ∙ cut-written own (drop from ws) (written zs ++ h .rest)) (take t₃ out) part k p₆ l d in
+            (here .0 ∙ sym own-long ∙ ap length (sym the-words), after-all, ap (λ (y : List ℕ). y ++ drop t₃ out) (x .0 ∙ sym the-words))
+
+-- ---- any cycle
+only-one : (ws : List ℕ) (sub : ℕ) → sub < 1 → getD (ws ∷ []) sub [] ≡ ws
+only-one ws zero h = refl
+only-one ws (suc sub) h = absurd (omega arith)
+
+empty : (sub : ℕ) → getD {A = List ℕ} ([] ∷ []) sub [] ≡ []
+empty zero = refl
+empty (suc sub) = refl
+
+module _ (s : List ℕ) (at size sub room : ℕ) (h : CycleHere s at size) (f : SubFits (h .c) size sub room) (count p : ℕ) (a : Added s at 1 count p) where
+  module _ (one : size ≡ 1) where
+    all-words : subcycle (h .c) sub ≡ h .c .words
     unfolding subcycle
-    part =
-        let e : from + many - from ≡ getD zs sub 0 = omega arith in
-        ap (λ (x : ℕ). take x (drop from ws)) e ∙ ap (λ (x : ℕ). take (getD zs sub 0) (drop x ws)) f ∙ sym (cut-whole ws zs sub h ∙ cut-at ws zs sub (k .inside h))
+    all-words = ap (λ (x : List ℕ). getD (subcycles (h .c .words) x) sub []) (no-split s at size h count p a one) ∙ only-one (h .c .words) sub (omega (arith, f .0))
 
-    part-long : length (take (from + many - from) (drop from ws)) ≡ many
-    part-long = omega (arith, length-take (from + many - from) (drop from ws), length-drop from ws, fits)
+    pub all-fits : count ≤ room
+    all-fits = omega (arith, count-there s at size h count p a .0, f .1, ap length all-words)
 
-    pub part-room : (out : List ℕ) → length (subcycle (record { words = ws; splits = zs }) sub) ≤ length out → length (take (from + many - from) (drop from ws)) ≤ length out
-    part-room out l = omega (arith, ap length part)
+    pub all-sent : (out part : List ℕ) (k q : ℕ) → length out ≡ room → Done s p (take count out) part k q → PartSent s (h .c) sub (h .rest) out (part ++ drop count out) count q
+    all-sent out part k q r d =
+        let e : count ≡ length (h .c .words) = count-there s at size h count p a .0 in
+        let l : length (take count out) ≡ length (h .c .words) = length-take-le count out (omega (arith, all-fits)) ∙ e in
+        let x = read-there s (h .c .words) (h .rest) p (words-most (h .c .words) (h .obeys .words)) (only-words s at size h count p a one) (take count out) part k q l d in
+        (e ∙ ap length (sym all-words), x .1, ap (λ (y : List ℕ). y ++ drop count out) (x .0 ∙ sym all-words))
 
-    pub part-of-it : (out out' : List ℕ) → out' ≡ take (from + many - from) (drop from ws) ++ drop (length (take (from + many - from) (drop from ws))) out
-        → (many ≡ length (subcycle (record { words = ws; splits = zs }) sub)) × (out' ≡ subcycle (record { words = ws; splits = zs }) sub ++ drop many out)
-    part-of-it out out' q = (
-      sym part-long ∙ ap length part,
-      q ∙ ap (λ (x : List ℕ). x ++ drop (length (take (from + many - from) (drop from ws))) out) part ∙ ap (λ (n : ℕ). subcycle (record { words = ws; splits = zs }) sub ++ drop n out) part-long,
-    )
-
--- a Subcycle of a cycle that obeys the rules
-pub in-subcycle : (n : ℕ) (c : Cycle) (j : ℕ) → n ≤ 10 → CycleObeys n c → InSubcycle (c .words) (c .splits) (j % 2 ^ n)
-unfolding subcycle
-in-subcycle n c j h o = go n (c .words) (c .splits) h (o .splits)
-  where
-    none : (ws zs : List ℕ) (s : ℕ) → zs ≡ [] → (getD (ws ∷ []) s [] ≡ ws) → InSubcycle ws zs s
-    none ws zs s e q =
-        subst (λ (x : List ℕ). InSubcycle ws x s) (sym e)
-        (record { few = omega arith; within = omega arith; whole = λ z. q; inside = λ z. absurd (z refl) })
-
-    empty : (s : ℕ) → getD {A = List ℕ} ([] ∷ []) s [] ≡ []
-    empty zero = refl
-    empty (suc s) = refl
-
-    go : (n : ℕ) (ws zs : List ℕ) → n ≤ 10 → Split n ws zs → InSubcycle ws zs (j % 2 ^ n)
-    go zero ws zs h e = none ws zs (j % 2 ^ 0) e (ap (λ (k : ℕ). getD (ws ∷ []) k []) (mod-one j))
-    go (suc n) [] zs h e = none [] zs (j % 2 ^ suc n) e (empty (j % 2 ^ suc n))
-    go (suc n) (w ∷ ws) zs h e =
-        let b : 2 ^ suc n ≤ 2 ^ 10 = pow-mono h in
-        let l : j % 2 ^ suc n < 2 ^ suc n = mod-lt j (pow-pos (suc n)) in
-        record { few = omega (arith, e .0); within = omega (arith, e .2); whole = λ z. absurd (omega (arith, e .0, pow-pos (suc n))); inside = λ z. omega (arith, e .0) }
+  pub none-sent : count ≡ 0 → (out : List ℕ) → PartSent s (h .c) sub (h .rest) out out count p
+  unfolding subcycle
+  none-sent z out =
+      let w = no-word s at size h count p a z in
+      let e : getD (subcycles (h .c .words) (h .c .splits)) sub [] ≡ [] =
+      ap (λ (x : List ℕ). getD (subcycles x (h .c .splits)) sub []) (w .0) ∙ ap (λ (x : List ℕ). getD (subcycles [] x) sub []) (w .1) ∙ empty sub in
+      (z ∙ ap length (sym e), nothing-here s at size h count p a z, ap (λ (k : ℕ). drop k out) (sym z) ∙ ap (λ (x : List ℕ). x ++ drop count out) (sym e))

@@ -1,21 +1,44 @@
 -- What the functions inside this crate promise each other.
 -- Assumes nothing.
-use Prim.Native.Nat.{ℕ, _≤_, _<_}
+use Prim.Native.Nat.{ℕ, _^_, _≤_, _<_}
 use mathlib.Core.Path.{_≡_}
-use mathlib.Core.List.{List, [], _++_}
+use mathlib.Core.List.{List, _++_}
 use lib.ListN.{length, drop}
-use Rattle.lists.specs.Values.{PeriodicList, sum}
-use Rattle.lists.specs.Reading.{took}
+use Rattle.numbers.specs.Written.{written}
+use Rattle.lists.specs.Values.{Cycle, PeriodicList}
 use Rattle.lists.specs.Sends.{subcycle, sends}
-use Rattle.lists.specs.Accepts.{accepted}
-use Rattle.lists.specs.Written.{Obeys, file}
+use Rattle.list_laws.specs.Written.{cycleNumbers, CycleObeys, Obeys, file}
 
--- a Subcycle of a cycle that obeys the rules
-pub record InSubcycle (words splits : List ℕ) (sub : ℕ) : Type 0 where
-  pub few : length splits ≤ 1024
-  pub within : sum splits ≤ length words
-  pub whole : length splits ≡ 0 → subcycle (record { words = words; splits = splits }) sub ≡ words
-  pub inside : (length splits ≡ 0 → ⊥) → sub < length splits
+-- a cycle with so many Subcycles stands at a place, then other bytes
+pub record CycleHere (s : List ℕ) (at size : ℕ) : Type 0 where
+  pub n : ℕ
+  pub c : Cycle
+  pub rest : List ℕ
+  pub small : n ≤ 10
+  pub power : size ≡ 2 ^ n
+  pub obeys : CycleObeys n c
+  pub bytes : drop at s ≡ written (cycleNumbers c) ++ rest
+
+-- the same after the count, of a cycle that has split numbers
+pub record SplitHere (s : List ℕ) (at count size : ℕ) : Type 0 where
+  pub n : ℕ
+  pub c : Cycle
+  pub rest : List ℕ
+  pub small : n ≤ 10
+  pub power : size ≡ 2 ^ n
+  pub obeys : CycleObeys n c
+  pub later : (size ≡ 1 → ⊥)
+  pub count-is : count ≡ length (c .words)
+  pub some : (count ≡ 0 → ⊥)
+  pub bytes : drop at s ≡ written (c .words) ++ (written (c .splits) ++ rest)
+
+-- there is such a Subcycle, and room for its words
+abbrev pub SubFits : Cycle → ℕ → ℕ → ℕ → Type 0
+SubFits c size sub room = (sub < size) × (length (subcycle c sub) ≤ room)
+
+-- so many words of a Subcycle, at the front of out, and the place after the cycle
+abbrev pub PartSent : List ℕ → Cycle → ℕ → List ℕ → List ℕ → List ℕ → ℕ → ℕ → Type 0
+PartSent s c sub rest out out' many next = (many ≡ length (subcycle c sub)) × (drop next s ≡ rest) × (out' ≡ subcycle c sub ++ drop many out)
 
 -- the bytes are the file of a list that obeys the rules, with this Basic Period in ms
 pub record IsList (s : List ℕ) (ms : ℕ) : Type 0 where

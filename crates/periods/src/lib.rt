@@ -1,20 +1,19 @@
 // What a Basic Period sends.
 use lists::ListCheck;
-use lists::cycle_at;
 use lists::cycles_of;
 use lists::list_check;
 use lists::periods_of;
 use numbers::read_numbers;
+use numbers::sum_numbers;
 use refusals::Refusal;
 ghost use mathlib.Core.Path.{_≡_};
 ghost use mathlib.Core.List.{List, [], _∷_, _++_};
 ghost use Prim.Native.Nat.{ℕ, _+_, _≤_, _<_};
 ghost use lib.ListN.{length, drop};
 ghost use Rattle.refusals.specs.Told.{gives, refusal};
-ghost use Rattle.lists.specs.Values.{sum, periodsOf};
-ghost use Rattle.lists.specs.Sends.{subcycle};
+ghost use Rattle.lists.specs.Values.{periodsOf};
 ghost use Rattle.periods.specs.Period.{periodBy, toldSent};
-ghost use Rattle.periods.specs.Inside.{InSubcycle, IsList, PeriodWords};
+ghost use Rattle.periods.specs.Inside.{CycleHere, SplitHere, SubFits, PartSent, IsList, PeriodWords};
 
 // How many words were written.
 pub enum Sent {
@@ -22,23 +21,10 @@ pub enum Sent {
     Refused(Refusal),
 }
 
-fn wide(x: u16) -> usize
-    ensures { λ r. ⌜ r ≡ x ⌝ }
-{
-    x as usize
-}
-
-fn total(splits: &[u16]) -> usize
-    requires { ⌜ length (now splits) ≤ 1024 ⌝ }
-    ensures { λ r. ⌜ r ≡ sum (now (splits .entry)) ⌝ }
-{
-    let mut acc: usize = 0;
-    let mut i = 0;
-    while i < splits.len() {
-        acc += wide(splits[i]);
-        i += 1;
-    }
-    acc
+// How many words of a cycle go out, and the place after the cycle.
+struct Part {
+    many: usize,
+    next: usize,
 }
 
 fn put(src: &[u16], out: &mut [u16])
@@ -52,42 +38,64 @@ fn put(src: &[u16], out: &mut [u16])
     }
 }
 
-// The words of one Subcycle, at the front of out: how many.
-fn put_subcycle(words: &[u16], splits: &[u16], sub: usize, out: &mut [u16]) -> usize
-    requires { ⌜ InSubcycle (now words) (now splits) sub × (length (subcycle (record { words = now words; splits = now splits }) sub) ≤ length (now out)) ⌝ }
-    ensures { λ r. ⌜ (r ≡ length (subcycle (record { words = now (words .entry); splits = now (splits .entry) }) sub))
-        × (now (out .exit) ≡ subcycle (record { words = now (words .entry); splits = now (splits .entry) }) sub ++ drop r (now (out .entry))) ⌝ }
+// Subcycle sub of a cycle with split numbers, whose words start at a place: the words are passed over, the split numbers
+// added up, and the words of the Subcycle read.
+fn put_split(list: &[u8], at: usize, count: u16, size: u16, sub: u16, out: &mut [u16]) -> Part
+    requires { ⌜ ((h : SplitHere (now list) at count size) × SubFits (h .c) size sub (length (now out))) ⌝ }
+    ensures { λ r. ⌜ ((h : SplitHere (now (list .entry)) at count size) → SubFits (h .c) size sub (length (now (out .entry)))
+        → PartSent (now (list .entry)) (h .c) sub (h .rest) (now (out .entry)) (now (out .exit)) (r .many) (r .next)) ⌝ }
 {
-    if splits.len() == 0 {
-        put(words, out);
-        return words.len();
+    let words = sum_numbers(list, at, count);
+    let before = sum_numbers(list, words.next, sub);
+    let here = sum_numbers(list, before.next, 1);
+    let after = sum_numbers(list, here.next, size - sub - 1);
+    let first = sum_numbers(list, at, before.total as u16);
+    let many = here.total;
+    read_numbers(list, first.next, &mut out[..many]);
+    Part {
+        many,
+        next: after.next,
     }
-    let from = total(&splits[..sub]);
-    let many = wide(splits[sub]);
-    let to = from + many;
-    put(&words[from..to], out);
-    many
+}
+
+// Subcycle sub of the cycle at a place, with so many Subcycles: its words at the front of out.
+fn put_subcycle(list: &[u8], at: usize, size: u16, sub: u16, out: &mut [u16]) -> Part
+    requires { ⌜ ((h : CycleHere (now list) at size) × SubFits (h .c) size sub (length (now out))) ⌝ }
+    ensures { λ r. ⌜ ((h : CycleHere (now (list .entry)) at size) → SubFits (h .c) size sub (length (now (out .entry)))
+        → PartSent (now (list .entry)) (h .c) sub (h .rest) (now (out .entry)) (now (out .exit)) (r .many) (r .next)) ⌝ }
+{
+    let c = sum_numbers(list, at, 1);
+    let count = c.total;
+    if size == 1 {
+        let all = read_numbers(list, c.next, &mut out[..count]);
+        return Part {
+            many: count,
+            next: all.next,
+        };
+    }
+    if count == 0 {
+        return Part {
+            many: count,
+            next: c.next,
+        };
+    }
+    put_split(list, c.next, count as u16, size, sub, out)
 }
 
 // The words of Basic Period j of an accepted list, at the front of out: how many.
-fn period_words(list: &[u8], ms: u16, j: usize, out: &mut [u16]) -> usize
+fn period_words(list: &[u8], ms: u16, j: u16, out: &mut [u16]) -> usize
     requires { ⌜ IsList (now list) ms × (j < periodsOf ms) × (length (now out) ≡ 64) ⌝ }
     ensures { λ r. ⌜ PeriodWords (now (list .entry)) j r (now (out .entry)) (now (out .exit)) ⌝ }
 {
-    let mut header = [0u16; 4];
-    let mut words = [0u16; 256];
-    let mut splits = [0u16; 1024];
     let cycles = cycles_of(ms);
-    let h = read_numbers(list, 0, &mut header);
-    let mut p = h.next;
+    let header = sum_numbers(list, 0, 4);
+    let mut p = header.next;
     let mut k: usize = 0;
     let mut n: usize = 0;
-    let mut size: usize = 1;
+    let mut size: u16 = 1;
     while n < cycles {
-        let c = cycle_at(list, p, n, &mut words, &mut splits);
-        let w = c.words;
-        let z = c.splits;
-        k += put_subcycle(&words[..w], &splits[..z], j % size, &mut out[k..]);
+        let c = put_subcycle(list, p, size, j % size, &mut out[k..]);
+        k += c.many;
         p = c.next;
         n += 1;
         size += size;
@@ -96,12 +104,12 @@ fn period_words(list: &[u8], ms: u16, j: usize, out: &mut [u16]) -> usize
 }
 
 // Basic Period j of an accepted list: 12, then 4.
-fn send(list: &[u8], ms: u16, j: usize, out: &mut [u16]) -> Sent
+fn send(list: &[u8], ms: u16, j: u16, out: &mut [u16]) -> Sent
     requires { ⌜ IsList (now list) ms ⌝ }
     ensures { λ r. ⌜ (toldSent r ≡ periodBy (now (list .entry)) j (length (now (out .entry))) refusal (λ ws. gives (length ws ∷ [])))
         × (now (out .exit) ≡ periodBy (now (list .entry)) j (length (now (out .entry))) (λ n. now (out .entry)) (λ ws. ws ++ drop (length ws) (now (out .entry)))) ⌝ }
 {
-    if periods_of(ms) <= j {
+    if periods_of(ms) <= j as usize {
         return Sent::Refused(Refusal::NoSuchPeriod);
     }
     if 64 <= out.len() {
@@ -127,7 +135,7 @@ pub fn basic_period(list: &[u8], j: u16, out: &mut [u16]) -> Sent
         ListCheck::Refused(n) => Sent::Refused(n),
         ListCheck::Accepted(head, _) => {
             let ms = head.ms;
-            send(list, ms, j as usize, out)
+            send(list, ms, j, out)
         }
     }
 }

@@ -9,18 +9,18 @@ use borrow.Author.Tests.{le-leb, eqb-true, eq-eqb, ltb-true, not-true, not-false
 use lib.Dec.{ltb, leb, eqb}
 use lib.ListN.{length, drop, length-append}
 use lib.Seq.{drop-append-seam}
-use Rattle.numbers.specs.Number.{Taken, bad, taken, number}
+use Rattle.numbers.specs.Number.{Taken, bad, taken, number, sum}
 use Rattle.numbers.specs.Written.{bytesOf, written, Bytes}
 use Rattle.numbers.proofs.WrittenLaws.{was, read-back, written-append, bytes-drop}
 use Rattle.lists.specs.declared.Header.{Header}
-use Rattle.lists.specs.Values.{Cycle, PeriodicList, cyclesOf, wordsOf, sum}
-use Rattle.lists.specs.Rules.{Check, right, wrong, unless, also, fcode, processData, listable, clashes, wordRule, splitRule, rules}
+use Rattle.lists.specs.Values.{Cycle, PeriodicList, cyclesOf, wordsOf}
+use Rattle.lists.specs.Rules.{Check, right, wrong, unless, also, processData, listable, clashes, wordRule, splitRule, rules}
 use Rattle.lists.specs.Reading.{Read, denied, took, then, when, orFive, numberIn, within, afterMs, headerIn, wordsIn, splitsIn, summedIn, splitIn, bodyIn, cycleIn, cyclesIn}
 use Rattle.lists.specs.Inside.{GoodHead}
-use Rattle.lists.specs.Written.{cycleNumbers, cyclesNumbers, All, Split}
+use Rattle.list_laws.specs.Written.{cycleNumbers, cyclesNumbers, All, Split}
 use Rattle.lists.proofs.HeadLaws.{in-range}
 use Rattle.lists.proofs.SentLaws.{words-snoc}
 use Rattle.lists.proofs.ThenLaws.{then-yes, when-yes, unless-right, also-right, yes-value, yes-rest}
 
 -- ---- a number
 pub record NumberWas (bytes : List ℕ) (v : ℕ) (rest : List ℕ) : Type 0 where

@@ -8,20 +8,20 @@ use native.Mathlib.Omega.{arith}
 use borrow.Author.Tests.{le-leb, leb-true, le-ltb, ltb-false, not-true}
 use lib.Dec.{ltb, leb}
 use lib.ListN.{length}
-use Rattle.numbers.specs.Written.{bytesOf, written, Bytes}
+use Rattle.numbers.specs.Written.{bytesOf, written, Bytes, Most}
 use Rattle.lists.specs.declared.Header.{Header}
 use Rattle.lists.specs.Values.{Cycle, PeriodicList, cyclesOf, periodsOf, wordsOf}
 use Rattle.lists.specs.Rules.{Check, right, wrong, unless, also, rules}
 use Rattle.lists.specs.Reading.{Read, denied, took, then, when, headerIn, cyclesIn, listIn}
 use Rattle.lists.specs.Sends.{sends, takes, some, overfull, crowded}
 use Rattle.lists.specs.Accepts.{none, ending, ended, accepted}
 use Rattle.lists.specs.Inside.{GoodHead}
-use Rattle.lists.specs.Written.{cyclesNumbers, file, All, Listable, CycleObeys, CyclesObey, Obeys}
+use Rattle.list_laws.specs.Written.{cyclesNumbers, file, All, Listable, CycleObeys, CyclesObey, Obeys}
 use Rattle.lists.proofs.LoadLaws.{some-none, some-one}
 use Rattle.lists.proofs.ListLaws.{good-head}
 use Rattle.lists.proofs.ThenLaws.{then-yes, when-yes, unless-right, also-right, yes-value, yes-rest}
-use Rattle.lists.proofs.WasLaws.{Fresh, fresh-left, fresh-right, Shaped, headWritten, header-was, header-back, cycles-was, cycles-back}
-use Rattle.lists.proofs.ClashLaws.{fresh-once, once-fresh, fresh-listable}
+use Rattle.list_laws.proofs.WasLaws.{listable-most, Fresh, fresh-left, fresh-right, Shaped, headWritten, header-was, header-back, cycles-was, cycles-back}
+use Rattle.list_laws.proofs.ClashLaws.{prop-listable, fresh-once, once-fresh, fresh-listable}
 
 -- ---- after the last cycle
 some-false : (k : ℕ) (f : ℕ → Bool) → some k f ≡ false → (j : ℕ) → j < k → f j ≡ false
@@ -165,3 +165,12 @@ accepted-exactly s l k = (
 -- only one list is written so
 pub one-list : (l m : PeriodicList) → Obeys l → Obeys m → file l ≡ file m → l ≡ m
 one-list l m o p e = yes-value l m [] [] (sym (obeys-accepted l o) ∙ ap accepted e ∙ obeys-accepted m p)
+
+-- ---- what a list that obeys the rules is written of
+pub words-most : (ws : List ℕ) → All Listable ws → Most ws
+words-most [] a = tt
+words-most (w ∷ ws) a = (listable-most w (prop-listable w (a .0)), words-most ws (a .1))
+
+pub small-most : (zs : List ℕ) → All (λ z. z ≤ 256) zs → Most zs
+small-most [] a = tt
+small-most (z ∷ zs) a = (omega (arith, a .0), small-most zs (a .1))

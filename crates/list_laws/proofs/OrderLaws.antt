@@ -10,13 +10,13 @@ use lib.Dec.{leb, eqb}
 use lib.ListN.{length, drop, length-append}
 use lib.Pow.{pow-pos}
 use Rattle.numbers.specs.Number.{Taken, bad, taken, number}
 use Rattle.lists.specs.declared.Header.{Header}
 use Rattle.lists.specs.Values.{Cycle, PeriodicList, cyclesOf, byMs, wordsOf}
 use Rattle.lists.specs.Rules.{Check, right, wrong, unless, also, wordRule, splitRule, rules}
 use Rattle.lists.specs.Reading.{Read, denied, took, then, when, orFive, numberIn, within, afterMs, headerIn, wordsIn, splitsIn, summedIn, splitIn, bodyIn, cycleIn, cyclesIn, listIn}
 use Rattle.lists.specs.Accepts.{ending, ended, accepted}
-use Rattle.lists.specs.Order.{Want, one, ms, gap, reserve, count, word, split, Due, want, over, afterCycles, splitsDue, afterWords, wordsDue, range, check, next, Refuses, unreadable, fails, later, at-end}
+use Rattle.list_laws.specs.Order.{Want, one, ms, gap, reserve, count, word, split, Due, want, over, afterCycles, splitsDue, afterWords, wordsDue, range, check, next, Refuses, unreadable, fails, later, at-end}
 use Rattle.lists.proofs.ThenLaws.{then-yes, when-yes, yes-value}
 
 -- each from the other
 record Iff (A B : Type 0) : Type 0 where

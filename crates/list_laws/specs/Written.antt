@@ -1,13 +1,15 @@
 -- The second account of a good list file: a list as a value, the rules that it obeys, and the bytes that it is written as (document 01, "The list file").
 -- Assumes nothing.
-use Prim.Native.Nat.{ℕ, zero, suc, _+_, _*_, _^_, _/_, _%_, _≤_, _<_}
+use Prim.Native.Nat.{ℕ, zero, suc, _+_, _*_, _^_, _≤_, _<_}
 use mathlib.Core.Path.{_≡_}
 use mathlib.Core.Logic.{_⊎_}
 use mathlib.Core.List.{List, [], _∷_, _++_}
 use lib.ListN.{length, getD}
 use Rattle.numbers.specs.Written.{written}
-use Rattle.lists.specs.Values.{Cycle, PeriodicList, cyclesOf, periodsOf, wordsOf, sum}
+use Rattle.frames.specs.Words.{fCode, address}
+use Rattle.numbers.specs.Number.{sum}
+use Rattle.lists.specs.Values.{Cycle, PeriodicList, cyclesOf, periodsOf, wordsOf}
 use Rattle.lists.specs.Sends.{sends, takes}
 
 -- "a count 0 to 256 and that many words", then split numbers where there are any
 abbrev pub cycleNumbers : Cycle → List ℕ
@@ -33,11 +35,11 @@ All P (x ∷ l) = P x × All P l
 
 -- "A listed word has F_code 0 to 4 or 15."
 abbrev pub Listable : ℕ → Type 0
-Listable w = (w / 4096 < 5) ⊎ (w / 4096 ≡ 15)
+Listable w = (fCode w < 5) ⊎ (fCode w ≡ 15)
 
 -- Process Data words that share an address; or a word with F_code 15 again
 abbrev pub Clash : ℕ → ℕ → Type 0
-Clash v w = ((v / 4096 < 5) × (w / 4096 < 5) × (v % 4096 ≡ w % 4096)) ⊎ ((w / 4096 ≡ 15) × (v ≡ w))
+Clash v w = ((fCode v < 5) × (fCode w < 5) × (address v ≡ address w)) ⊎ ((fCode w ≡ 15) × (v ≡ w))
 
 -- "A cycle with n at least 1 and a count above 0 is followed by 2^n split numbers, each 0 to 256": others have none
 abbrev pub Split : ℕ → List ℕ → List ℕ → Type 0

@@ -10,9 +10,10 @@ use borrow.Author.Tests.{lt-ltb, ltb-true, eq-eqb, eqb-true}
 use lib.Dec.{ltb, eqb}
 use lib.ListN.{length, getD, take, length-append, List·getD-append}
 use lib.Seq.{getD-take, getD-at, length-take-le}
-use Rattle.lists.specs.Rules.{fcode, address, processData, listable, clash, clashes}
-use Rattle.lists.specs.Written.{All, Listable, Clash}
-use Rattle.lists.proofs.WasLaws.{Fresh}
+use Rattle.frames.specs.Words.{fCode, address}
+use Rattle.lists.specs.Rules.{processData, listable, clash, clashes}
+use Rattle.list_laws.specs.Written.{All, Listable, Clash}
+use Rattle.list_laws.proofs.WasLaws.{Fresh}
 
 and-both : (a b : Bool) → (a && b) ≡ true → (a ≡ true) × (b ≡ true)
 and-both true b e = (refl, e)
@@ -35,7 +36,7 @@ false-or-true true h = absurd (h refl)
 false-or-true false h = refl
 
 pub listable-prop : (w : ℕ) → listable w ≡ true → Listable w
-listable-prop w e = ⊎-elim (λ h. inl (ltb-true (w / 4096) 5 h)) (λ h. inr (eqb-true (w / 4096) 15 h)) (or-cases (processData w) (eqb (fcode w) 15) e)
+listable-prop w e = ⊎-elim (λ h. inl (ltb-true (w / 4096) 5 h)) (λ h. inr (eqb-true (w / 4096) 15 h)) (or-cases (processData w) (eqb (fCode w) 15) e)
 
 pub prop-listable : (w : ℕ) → Listable w → listable w ≡ true
 prop-listable w p = ⊎-elim (λ h. rw (lt-ltb (w / 4096) 5 h)) (λ h. rw (eq-eqb (w / 4096) 15 h) (or-true (ltb (w / 4096) 5))) p
@@ -49,9 +50,9 @@ clash-prop v w e =
     let b = and-both (processData w) (eqb (address v) (address w)) (a .1) in
     inl (ltb-true (v / 4096) 5 (a .0), ltb-true (w / 4096) 5 (b .0), eqb-true (v % 4096) (w % 4096) (b .1)))
     (λ h.
-    let a = and-both (eqb (fcode w) 15) (eqb v w) h in
+    let a = and-both (eqb (fCode w) 15) (eqb v w) h in
     inr (eqb-true (w / 4096) 15 (a .0), eqb-true v w (a .1)))
-    (or-cases (processData v && (processData w && eqb (address v) (address w))) (eqb (fcode w) 15 && eqb v w) e)
+    (or-cases (processData v && (processData w && eqb (address v) (address w))) (eqb (fCode w) 15 && eqb v w) e)
 
 prop-clash : (v w : ℕ) → Clash v w → clash v w ≡ true
 unfolding clash

@@ -1,0 +1,4 @@
+pub mod WasLaws
+pub mod ClashLaws
+pub mod Acceptance
+pub mod OrderLaws

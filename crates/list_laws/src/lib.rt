@@ -1,0 +1,1 @@
+// What the acceptance of a list means: theorems alone.
