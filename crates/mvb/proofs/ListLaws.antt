@@ -16,8 +16,8 @@ use Rattle.lists.specs.Reading.{Read, denied, took}
 use Rattle.lists.specs.Sends.{sends}
 use Rattle.lists.specs.Accepts.{accepted}
 use Rattle.lists.specs.Answers.{toldRead}
-use Rattle.lists.specs.Written.{Obeys}
-use Rattle.lists.proofs.Acceptance.{accepted-obeys}
+use Rattle.list_laws.specs.Written.{Obeys}
+use Rattle.list_laws.proofs.Acceptance.{accepted-obeys}
 use Rattle.periods.specs.Period.{periodBy, askedBy}
 use Rattle.list_text.specs.Text.{textOf, textBy}
 use Rattle.list_text.proofs.TextLaws.{all-words-few, bytes-fit, always-enough}
