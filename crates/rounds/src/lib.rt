@@ -90,10 +90,15 @@ impl Round {
         self.requests = self.requests + 1;
         let good = self.is_good(answer);
         match answer {
-            LineAnswer::Silence => self.next(),
-            LineAnswer::Reply(word) => { if good { self.read(word) } else { self.split() } }
-            LineAnswer::Collision => self.split(),
+            LineAnswer::Silence => return self.next(),
+            LineAnswer::Reply(word) => {
+                if good {
+                    return self.read(word);
+                }
+            }
+            LineAnswer::Collision => {}
         }
+        self.split()
     }
 
     // The answer to a read, whatever it is: on to what follows.
