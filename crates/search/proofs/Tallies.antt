@@ -2,6 +2,7 @@
 -- Assumes nothing.
 use mathlib.Core.Path.{_≡_, refl, sym, ap, _∙_, subst}
 use mathlib.Core.Bool.{Bool, true, false, cond}
+use mathlib.Core.Logic.{_⊎_, ⊎-elim}
 use Prim.Native.Nat.{ℕ, zero, suc, _+_, _-_, _*_, _%_, _^_, _≤_, _<_}
 use native.Mathlib.Omega.{arith}
 use native.Mathlib.Decide.{decLe}
@@ -13,7 +14,7 @@ use Rattle.groups.specs.Sets.{Member, devices}
 use Rattle.groups.proofs.Follow.{Group}
 use Rattle.groups.proofs.Powers.{at-most}
 use Rattle.groups.proofs.Counting.{along, device-count}
-use Rattle.search.specs.Inside.{Tally, Silent}
+use Rattle.search.specs.Inside.{Tally, Silent, Far}
 
 one-more : (n s : ℕ) → suc n * s ≡ n * s + s
 one-more n s = omega arith
@@ -129,18 +130,28 @@ module _ (S : ℕ → Bool) (m c most step : ℕ) (g : Group m c) where
       subst (λ (x : ℕ). Left S m c most step count last x) (let e : a + step + k * step ≡ a + suc k * step = omega (arith, one-more k step) in e)
       (passed-all k count last (a + step) n (λ i h. subst (λ (x : ℕ). (x < 4096) × (S x ≡ false)) (let e : a + suc i * step ≡ a + step + i * step = omega (arith, one-more i step) in e) (none (suc i) (omega arith))))
 
-  -- 64 addresses on
-  pub passed-64 : (count last a : ℕ) → Left S m c most step count last a → Silent S a step → Left S m c most step count last (a + 64)
-  passed-64 count last a l q =
-      let w = l .wide in
-      let few : 12 - m ≤ 3 = small (12 - m) (omega arith) in
-      let times : 2 ^ (6 - (12 - m)) * step ≡ 64 =
-      ap (λ (x : ℕ). 2 ^ (6 - (12 - m)) * x) w ∙ sym (pow-add 2 (6 - (12 - m)) (12 - m)) ∙ ap (λ (x : ℕ). 2 ^ x) (let e : 6 - (12 - m) + (12 - m) ≡ 6 = omega arith in e) in
+  -- so far on that they are 2^e addresses
+  passed-power : (e count last a : ℕ) → Left S m c most step count last a → 12 - m ≤ e → Silent S a step (2 ^ e) → Left S m c most step count last (a + 2 ^ e)
+  passed-power e count last a l h q =
+      let times : 2 ^ (e - (12 - m)) * step ≡ 2 ^ e =
+      ap (λ (x : ℕ). 2 ^ (e - (12 - m)) * x) (l .wide) ∙ sym (pow-add 2 (e - (12 - m)) (12 - m)) ∙ ap (λ (x : ℕ). 2 ^ x) (let s : e - (12 - m) + (12 - m) ≡ e = omega arith in s) in
       subst (λ (x : ℕ). Left S m c most step count last (a + x)) times
-      (passed-all (2 ^ (6 - (12 - m))) count last a l (λ i h. q .1 i (below-64 i (2 ^ (6 - (12 - m))) h times)))
+      (passed-all (2 ^ (e - (12 - m))) count last a l (λ i g. q i (below i (2 ^ (e - (12 - m))) g times)))
+    where
+      below : (i k : ℕ) → i < k → k * step ≡ 2 ^ e → i * step + step ≤ 2 ^ e
+      below i k h e = let p : suc i * step ≤ k * step = mul-le-mul-right step (omega arith) in omega (arith, one-more i step)
+
+  -- over empty bytes
+  pub passed-far : (far count last a : ℕ) → Left S m c most step count last a → Silent S a step far → Far step far → 0 < far → Left S m c most step count last (a + far)
+  passed-far far count last a l q f h =
+      ⊎-elim (λ (z : far ≡ 0). absurd (omega arith))
+      (λ (w : (step ≤ 8) × ((far ≡ 8) ⊎ (far ≡ 64))).
+      let s : 12 - m ≤ 3 = let t = l .wide in small (12 - m) (omega (arith, w .0)) in
+      ⊎-elim (λ (z : far ≡ 8). power 3 z (omega arith)) (λ (z : far ≡ 64). power 6 z (omega arith)) (w .1)) f
     where
       small : (k : ℕ) → 2 ^ k ≤ 8 → k ≤ 3
       small k h = elim (decLe k 3) [ yes g ↦ g | no g ↦ absurd (let p : 2 ^ 4 ≤ 2 ^ k = pow-mono {i = 4} {j = k} (omega arith) in omega arith) ]
 
-      below-64 : (i k : ℕ) → i < k → k * step ≡ 64 → i * step + step ≤ 64
-      below-64 i k h e = let p : suc i * step ≤ k * step = mul-le-mul-right step (omega arith) in omega (arith, one-more i step)
+      power : (e : ℕ) → far ≡ 2 ^ e → 12 - m ≤ e → Left S m c most step count last (a + far)
+      power e z g =
+          subst (λ (x : ℕ). Left S m c most step count last (a + x)) (sym z) (passed-power e count last a l g (subst (λ (x : ℕ). Silent S a step x) z q))

@@ -4,6 +4,7 @@ use Prim.Native.Nat.{ℕ, _+_, _*_, _≤_, _<_}
 use mathlib.Core.Path.{_≡_}
 use mathlib.Core.Bool.{Bool, false}
 use mathlib.Core.List.{List, [], _∷_}
+use mathlib.Core.Logic.{_⊎_}
 use lib.ListN.{length, getD, set}
 use Rattle.frames.specs.declared.LineAnswer.{LineAnswer}
 use Rattle.frames.specs.declared.LineAnswer.the-variants.{Silence, Reply, Collision}
@@ -27,9 +28,13 @@ pub record Tally (S : ℕ → Bool) (m c most count last : ℕ) : Type 0 where
 abbrev pub Blank : List ℕ → ℕ → ℕ → Type 0
 Blank bytes at n = (i : ℕ) → i < n → getD bytes (at + i) 0 ≡ 0
 
--- of the addresses from a on, a small step apart, none within 64 has an event
-abbrev pub Silent : (ℕ → Bool) → ℕ → ℕ → Type 0
-Silent S a step = (step ≤ 8) × ((i : ℕ) → i * step + step ≤ 64 → (a + i * step < 4096) × (S (a + i * step) ≡ false))
+-- of the addresses from a on, a step apart, none that lies so far on has an event
+abbrev pub Silent : (ℕ → Bool) → ℕ → ℕ → ℕ → Type 0
+Silent S a step far = (i : ℕ) → i * step + step ≤ far → (a + i * step < 4096) × (S (a + i * step) ≡ false)
+
+-- how far: not at all, or a byte or eight of them in small steps
+abbrev pub Far : ℕ → ℕ → Type 0
+Far step far = (far ≡ 0) ⊎ ((step ≤ 8) × ((far ≡ 8) ⊎ (far ≡ 64)))
 
 -- l, written into out from place `at` on
 abbrev pub placed : List ℕ → ℕ → List ℕ → List ℕ

@@ -9,7 +9,7 @@ ghost use Rattle.groups.specs.Groups.{isGroup};
 ghost use Rattle.groups.specs.Sets.{devices as devicesOf};
 ghost use Rattle.groups.specs.Search.{searchOf};
 ghost use Rattle.search.specs.Searches.{inSet, searched, written};
-ghost use Rattle.search.specs.Inside.{answerTo, Tally as Tallied, Silent, Blank, placed};
+ghost use Rattle.search.specs.Inside.{answerTo, Tally as Tallied, Silent, Far, Blank, placed};
 ghost use Rattle.search.specs.Told.{told};
 
 // Requests and reads; or a refusal.
@@ -104,8 +104,9 @@ fn tally_up(set: &[u8], m: u16, c: u16, most: u16) -> Tally
     let mut last: u16 = 0;
     let mut a = c;
     while a < 4096 {
-        if silent(set, a, step) {
-            a = a + 64;
+        let empty = empty_from(set, a, step);
+        if 0 < empty {
+            a = a + empty;
         } else {
             if has(set, a) {
                 last = a;
@@ -126,33 +127,45 @@ fn tally_up(set: &[u8], m: u16, c: u16, most: u16) -> Tally
     }
 }
 
-// Whether a and the group's next addresses, 64 in all with what lies between them, are seen at once to have no event.
-fn silent(set: &[u8], a: u16, step: u16) -> bool
+// How many addresses on lie only empty bytes, from a on: 64 or 8, where a is the group's first there, or 0.
+fn empty_from(set: &[u8], a: u16, step: u16) -> u16
     requires { ⌜ (length (now set) ≡ 512) × (a < 4096) × (1 ≤ step) ⌝ }
-    ensures { λ r. ⌜ (r ≡ true → Silent (inSet (now (set .entry))) a step) ⌝ }
+    ensures { λ r. ⌜ (r ≤ 64) × Silent (inSet (now (set .entry))) a step r × Far step r ⌝ }
 {
     if 8 < step {
-        return false;
+        return 0;
+    }
+    if step <= a % 8 {
+        return 0;
+    }
+    let at = (a / 8) as usize;
+    if set[at] != 0 {
+        return 0;
     }
     if step <= a % 64 {
-        return false;
+        return 8;
     }
-    blank(set, (a / 64 * 8) as usize)
+    if total(set, at) == 0 { 64 } else { 8 }
 }
 
-// Whether the eight bytes from a place on are zero.
-fn blank(set: &[u8], at: usize) -> bool
-    requires { ⌜ (length (now set) ≡ 512) × (at + 8 ≤ 512) ⌝ }
-    ensures { λ r. ⌜ (r ≡ true → Blank (now (set .entry)) at 8) ⌝ }
+fn wide(byte: u8) -> u32
+    ensures { λ r. ⌜ (r ≡ byte) × (r < 256) ⌝ }
 {
+    byte as u32
+}
+
+// The sum of the eight bytes from a place on.
+fn total(set: &[u8], at: usize) -> u32
+    requires { ⌜ (length (now set) ≡ 512) × (at + 8 ≤ 512) ⌝ }
+    ensures { λ r. ⌜ (r ≡ 0 → Blank (now (set .entry)) at 8) ⌝ }
+{
+    let mut sum: u32 = 0;
     let mut i = 0;
     while i < 8 {
-        if set[at + i] != 0 {
-            return false;
-        }
+        sum = sum + wide(set[at + i]);
         i += 1;
     }
-    true
+    sum
 }
 
 // Whether device a has an event.

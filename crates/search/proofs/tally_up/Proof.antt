@@ -7,7 +7,7 @@ use native.Mathlib.Omega.{arith}
 use borrow.Author.Needs.{needs}
 use Rattle.groups.proofs.Follow.{group-is}
 use Rattle.search.specs.Searches.{inSet}
-use Rattle.search.proofs.Tallies.{Left, none-yet, narrow, passed, passed-64, met, enough-met, all-met}
+use Rattle.search.proofs.Tallies.{Left, none-yet, narrow, passed, passed-far, met, enough-met, all-met}
 use Rattle.search.proofs.tally_up.Statement.{statement}
 use Rattle.search.proofs.tally_up.Tie as tie
 
@@ -22,8 +22,8 @@ loop-holds c =
     let b = c .before .before in
     none-yet (inSet (b .args .set .now)) (b .args .m) (b .args .c) (b .args .most) (c .bound .result) (group-is _ _ (b .pre .1)) (c .bound .ensures) (b .pre .2)
 
-silent-requires : tie.Need-silent-requires Inv-loop μ-loop
-silent-requires i κs =
+empty-from-requires : tie.Need-empty-from-requires Inv-loop μ-loop
+empty-from-requires i κs =
     let l = i .before .loop in
     let s = i .before .before in
     let b = s .before .before in
@@ -35,7 +35,7 @@ loop-again c =
     let l = i .before .loop in
     let s = i .before .before in
     let b = s .before .before in
-    passed-64 (inSet (b .args .set .now)) (b .args .m) (b .args .c) (b .args .most) (s .bound .result) (group-is _ _ (b .pre .1)) (l .devices) (l .last) (l .a) (l .inv) (c .before .silent .ensures (c .if1 .taken))
+    passed-far (inSet (b .args .set .now)) (b .args .m) (b .args .c) (b .args .most) (s .bound .result) (group-is _ _ (b .pre .1)) (c .before .empty-from .result) (l .devices) (l .last) (l .a) (l .inv) (c .before .empty-from .ensures .1) (c .before .empty-from .ensures .2) (c .if1 .taken)
 
 has-requires : tie.Need-has-requires Inv-loop μ-loop
 has-requires c κs =
@@ -103,9 +103,9 @@ tally-up-spec =
     μ-loop
     (λ c κs. search needs)
     loop-holds
-    silent-requires
-    (λ c. omega (arith, c .before .before .loop-test .taken))
-    (λ c. omega (arith, c .before .before .loop-test .taken))
+    empty-from-requires
+    (λ c. omega (arith, c .before .before .loop-test .taken, c .before .empty-from .ensures .0))
+    (λ c. omega (arith, c .before .before .loop-test .taken, c .if1 .taken))
     loop-again
     has-requires
     add-devices
