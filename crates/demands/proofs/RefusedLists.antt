@@ -1,0 +1,105 @@
+-- What a refusal of a number, a list, a Basic Period and the list program's text is, and that it leaves what was lent.
+-- Assumes nothing.
+use mathlib.Core.Path.{_≡_, refl, sym, ap, _∙_}
+use mathlib.Core.Bool.{Bool, true, false, not, cond, _&&_}
+use mathlib.Core.List.{List, [], _∷_, _++_}
+use Prim.Native.Nat.{ℕ, zero, suc, _≤_, _+_, _*_}
+use native.Mathlib.Decide.{decLe}
+use native.Mathlib.Omega.{arith}
+use lib.Dec.{eqb, ltb, leb}
+use lib.ListN.{length, drop}
+use Rattle.refusals.specs.Told.{Told, gives, refusal}
+use Rattle.numbers.specs.Number.{Taken, bad, taken, number as numberFirst, from, numberAt}
+use Rattle.lists.specs.Values.{PeriodicList, periodsOf, wordsOf, sum}
+use Rattle.lists.specs.Rules.{Check, right, wrong, unless, also, listable, clashes, splitRule}
+use Rattle.lists.specs.Reading.{Read, denied, took}
+use Rattle.lists.specs.Sends.{sends, overfull, crowded}
+use Rattle.lists.specs.Accepts.{none, ending, accepted}
+use Rattle.lists.specs.Order.{Want, one, ms, gap, reserve, count, word, split, Due, want, over, range, check, next, Refuses, unreadable, fails, later, at-end}
+use Rattle.lists.specs.Answers.{toldRead}
+use Rattle.periods.specs.Period.{askedBy, periodBy}
+use Rattle.list_text.specs.Text.{textOf, textBy}
+use Rattle.lists.proofs.OrderLaws.{first-fault, too-long-first}
+use Rattle.demands.specs.Demand1.{Refusing}
+use Rattle.demands.proofs.Chains.{Listed, answers, refuses, unless as if-not}
+
+-- ---- numbers
+pub number : (s : List ℕ) (place : ℕ) → Refusing (numberAt s place) (Unit {0})
+unfolding numberAt
+number s place = go (numberFirst (drop place s))
+  where
+    go : (t : Taken) → Refusing (from place t) (Unit {0})
+    go bad = refuses 5 (omega arith, omega arith) tt
+    go (taken v n) = answers _
+
+-- ---- the list file
+unless-listed : (k : ℕ) (b : Bool) (m : ℕ) → Listed k → unless k b ≡ wrong m → Listed m
+unless-listed k true m h e = let z : _≡_ {A = ℕ} 0 1 = cc in absurd (omega arith)
+unless-listed k false m h e = let s : k ≡ m = cc in (omega (arith, h), omega (arith, h))
+
+also-listed : (a b : Check) (m : ℕ) → (a ≡ wrong m → Listed m) → (b ≡ wrong m → Listed m) → also a b ≡ wrong m → Listed m
+also-listed right b m f g e = g e
+also-listed (wrong n) b m f g e = f e
+
+range-listed : (lo hi v m : ℕ) → range lo hi v ≡ wrong m → Listed m
+range-listed lo hi v m e = unless-listed 6 (leb lo v && leb v hi) m (omega arith, omega arith) e
+
+check-listed : (w : Want) (v m : ℕ) → check w v ≡ wrong m → Listed m
+check-listed one v m e = range-listed 1 1 v m e
+check-listed ms v m e = range-listed 1 2 v m e
+check-listed (gap p) v m e = range-listed 4 128 v m e
+check-listed (reserve p g) v m e = range-listed (67 + g) (1500 * p) v m e
+check-listed (count h cs) v m e = range-listed 0 256 v m e
+check-listed (word h cs ws k) v m e =
+    also-listed (unless 7 (listable v)) (unless 8 (not (clashes v (wordsOf cs ++ ws)))) m
+    (unless-listed 7 (listable v) m (omega arith, omega arith)) (unless-listed 8 (not (clashes v (wordsOf cs ++ ws))) m (omega arith, omega arith)) e
+check-listed (split h cs ws zs zero) v m e =
+    also-listed (range 0 256 v) (splitRule (length ws) (zs ++ v ∷ [])) m (range-listed 0 256 v m) (unless-listed 9 (eqb (sum (zs ++ v ∷ [])) (length ws)) m (omega arith, omega arith)) e
+check-listed (split h cs ws zs (suc k)) v m e = range-listed 0 256 v m e
+
+ending-listed : (l : PeriodicList) (rest : List ℕ) (m : ℕ) → ending l rest ≡ wrong m → Listed m
+unfolding ending
+ending-listed l rest m e =
+    also-listed (unless 11 (none rest)) _ m (unless-listed 11 (none rest) m (omega arith, omega arith))
+    (also-listed (unless 10 (not (overfull l))) (unless 19 (not (crowded l))) m (unless-listed 10 (not (overfull l)) m (omega arith, omega arith)) (unless-listed 19 (not (crowded l)) m (omega arith, omega arith)))
+    e
+
+refuses-listed : (d : Due) (bytes : List ℕ) (m : ℕ) → Refuses d bytes m → Listed m
+refuses-listed (want w) bytes m (unreadable e) = (omega arith, omega arith)
+refuses-listed (want w) bytes m (fails {v = v} e f) = check-listed w v m f
+refuses-listed (want w) bytes m (later {v = v} {n = n} e f r) = refuses-listed (next w v) (drop n bytes) m r
+refuses-listed (over l) bytes m (at-end e) = ending-listed l bytes m e
+
+same : (k m : ℕ) → _≡_ {A = Read PeriodicList} (denied k) (denied m) → k ≡ m
+same k m e = cc
+
+denied-listed : (s : List ℕ) (m : ℕ) → accepted s ≡ denied m → Listed m
+denied-listed s m e = by-size (decLe (length s) 16384)
+  where
+    by-size : Dec (length s ≤ 16384) → Listed m
+    by-size (yes h) = refuses-listed (want one) s m (first-fault s m h .0 e)
+    by-size (no h) = let k : 1 ≡ m = same 1 m (sym (too-long-first s (omega arith)) ∙ e) in (omega arith, omega arith)
+
+pub list-check : (s : List ℕ) → Refusing (toldRead (accepted s)) (Unit {0})
+list-check s = go (accepted s) refl
+  where
+    go : (x : Read PeriodicList) → accepted s ≡ x → Refusing (toldRead x) (Unit {0})
+    go (denied n) e = refuses n (denied-listed s n e) tt
+    go (took l rest) e = answers _
+
+pub basic-period : (s : List ℕ) (j : ℕ) (out : List ℕ)
+    → Refusing (periodBy s j (length out) refusal (λ ws. gives (length ws ∷ []))) (periodBy s j (length out) (λ n. out) (λ ws. ws ++ drop (length ws) out) ≡ out)
+unfolding periodBy
+basic-period s j out = go (accepted s) refl
+  where
+    go : (x : Read PeriodicList) → accepted s ≡ x
+        → Refusing (askedBy x j (length out) refusal (λ ws. gives (length ws ∷ []))) (askedBy x j (length out) (λ n. out) (λ ws. ws ++ drop (length ws) out) ≡ out)
+    go (denied n) e = refuses n (denied-listed s n e) refl
+    go (took l rest) e =
+        if-not (ltb j (periodsOf (l .head .ms))) 12 _ _ out (omega arith, omega arith)
+        (if-not (leb (length (sends l j)) (length out)) 4 _ _ out (omega arith, omega arith) (answers _))
+
+pub list-text : (s out : List ℕ)
+    → Refusing (textBy s (length out) refusal (λ t. gives (length t ∷ []))) (textBy s (length out) (λ n. out) (λ t. t ++ drop (length t) out) ≡ out)
+unfolding textBy
+list-text s out = if-not (leb (length (textOf (accepted s))) (length out)) 4 _ _ out (omega arith, omega arith) (answers _)
