@@ -2,7 +2,7 @@
 -- Assumes nothing.
 use mathlib.Core.Path.{_≡_, refl, sym, ap, ap₂, _∙_}
 use mathlib.Core.Bool.{not}
-use mathlib.Core.List.{List, map}
+use mathlib.Core.List.{List, [], map}
 use Prim.Native.Nat.{ℕ, _<_}
 use native.Mathlib.Omega.{arith}
 use base.Logic.{emp, id⊢}
@@ -26,7 +26,6 @@ use Rattle.timing.proofs as timing
 use Rattle.timing.proofs.Apart.{telegrams-apart, guards-apart}
 use Rattle.groups.proofs as groups
 use Rattle.rounds.proofs as rounds
-use Rattle.rounds.specs.Rounds.{startOf, stepOf}
 use Rattle.rounds.proofs.Apart.{steps-apart}
 use Rattle.search.proofs as search-of
 use Rattle.search.proofs.Apart.{answers-apart}
@@ -52,7 +51,7 @@ use Rattle.demands.proofs.RefusedPorts as port
 use Rattle.demands.proofs.Shown.{said, two, Shown, EachShown}
 
 -- the line's answer is no refusal
-line-tells : {P : Type 0} (x : LineAnswer) → Refusing (toldLine x) P
+line-tells : {P : Type 0} (x : LineAnswer) → Refusing [] (toldLine x) P
 line-tells Silence = answers _
 line-tells (Reply word) = answers _
 line-tells Collision = answers _
@@ -377,7 +376,7 @@ pub round-start : Shown table.round-start
 round-start = record {
   promised = λ M 𝓤 H 𝓜 𝓖 𝓡. rounds.Round.start.Met.met 𝓤 H 𝓜 𝓖 𝓡;
   says = said table.round-start _ (λ M 𝓤 H A mem run κs a. refl);
-  refusing = λ κs a r ws c. told-so c (λ u. refl) (calls.round-step (startOf (a .0)));
+  refusing = λ κs a r ws c. told-so c (λ u. refl) (calls.round-start (a .0));
   one = λ κs a r s ws vs c d. (steps-apart r s (c ∙ sym d), refl);
 }
 
@@ -385,7 +384,7 @@ pub round-answer : Shown table.round-answer
 round-answer = record {
   promised = λ M 𝓤 H 𝓜 𝓖 𝓡. rounds.Round.answer.Met.met 𝓤 H 𝓜 𝓖 𝓡;
   says = said table.round-answer _ (λ M 𝓤 H A mem run κs a. refl);
-  refusing = λ κs a r ws c. told-so c (λ u. refl) (calls.round-step (stepOf (a .0) (a .1 .0)));
+  refusing = λ κs a r ws c. told-so c (λ u. refl) (calls.round-answer (a .0) (a .1 .0));
   one = λ κs a r s ws vs c d. (steps-apart r s (c ∙ sym d), refl);
 }
 

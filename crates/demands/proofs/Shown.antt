@@ -53,7 +53,7 @@ pub record Shown (f : EntryPoint) : Type 3 where
   pub promised : Promised f
   pub says : Says f
   pub refusing : (κs : Lfts (f .ended .signature .lifetimes)) (a : Args (f .ended .signature) κs) (r : Res (f .ended .signature) κs) (ws : Lasts (f .ended) κs a)
-      → says .Claim κs a r (atExit (f .ended) κs a ws) → Refusing (f .told κs r) (f .at-exit κs (atExit (f .ended) κs a ws) ≡ a)
+      → says .Claim κs a r (atExit (f .ended) κs a ws) → Refusing (f .refuses) (f .told κs r) (f .at-exit κs (atExit (f .ended) κs a ws) ≡ a)
   pub one : (κs : Lfts (f .ended .signature .lifetimes)) (a : Args (f .ended .signature) κs) (r s : Res (f .ended .signature) κs) (ws vs : Lasts (f .ended) κs a)
       → says .Claim κs a r (atExit (f .ended) κs a ws) → says .Claim κs a s (atExit (f .ended) κs a vs) → (r ≡ s) × (ws ≡ vs)
 

@@ -45,6 +45,8 @@ pub record EntryPoint : Type 3 where
   pub ended : Ended
   pub routine : Routine
   pub promise : {M : Type 1} (𝓤 : URA M) (H : Heap 𝓤) → Atoms 𝓤 → (Memory → SProp 𝓤) → (Routine → Fun 𝓤) → Clauses 𝓤 ended
+  -- the numbers of its refusals
+  pub refuses : List ℕ
   -- what its answer tells: values, or a refusal's number
   pub told : (κs : Lfts (ended .signature .lifetimes)) → Res (ended .signature) κs → Told
   -- all that was passed, as it is at exit: every row says `λ κs e. e`
@@ -58,193 +60,197 @@ value n = gives (n ∷ [])
 abbrev pub yesNo : Bool → Told
 yesNo b = gives (one b ∷ [])
 
+-- "1 for the file, then 5, 6, 7, 8; 9 after a cycle's last split number. After the last cycle 11, then 10, then 19"
+abbrev pub listRefusals : List ℕ
+listRefusals = 1 ∷ 5 ∷ 6 ∷ 7 ∷ 8 ∷ 9 ∷ 11 ∷ 10 ∷ 19 ∷ []
+
 -- ---- refusals: the numbers of document 01, and how C sees them
 
--- a refusal by its number; it refuses nothing
+-- a refusal by its number
 abbrev pub refusal-number : EntryPoint
-refusal-number = record { ended = refusals.Refusal.number.ended; routine = refusals.Refusal.number.Symbol.routine; promise = refusals.Refusal.number.clauses; told = λ κs r. value r; at-exit = λ κs e. e }
+refusal-number = record { ended = refusals.Refusal.number.ended; routine = refusals.Refusal.number.Symbol.routine; promise = refusals.Refusal.number.clauses; refuses = []; told = λ κs r. value r; at-exit = λ κs e. e }
 
--- a refusal as C sees it; it refuses nothing
+-- a refusal as C sees it
 abbrev pub refusal-code : EntryPoint
-refusal-code = record { ended = refusals.Refusal.code.ended; routine = refusals.Refusal.code.Symbol.routine; promise = refusals.Refusal.code.clauses; told = λ κs r. value r; at-exit = λ κs e. e }
+refusal-code = record { ended = refusals.Refusal.code.ended; routine = refusals.Refusal.code.Symbol.routine; promise = refusals.Refusal.code.clauses; refuses = []; told = λ κs r. value r; at-exit = λ κs e. e }
 
 -- ---- frames
 
--- the check sequence of any block; it refuses nothing
+-- the check sequence of any block
 abbrev pub check-of : EntryPoint
-check-of = record { ended = checks.check_of.ended; routine = checks.check_of.Symbol.routine; promise = checks.check_of.clauses; told = λ κs r. value r; at-exit = λ κs e. e }
+check-of = record { ended = checks.check_of.ended; routine = checks.check_of.Symbol.routine; promise = checks.check_of.clauses; refuses = []; told = λ κs r. value r; at-exit = λ κs e. e }
 
--- the row of any F_code; it refuses nothing
+-- the row of any F_code
 abbrev pub row-of : EntryPoint
-row-of = record { ended = frames.row_of.ended; routine = frames.row_of.Symbol.routine; promise = frames.row_of.clauses; told = λ κs r. gives r; at-exit = λ κs e. e }
+row-of = record { ended = frames.row_of.ended; routine = frames.row_of.Symbol.routine; promise = frames.row_of.clauses; refuses = []; told = λ κs r. gives r; at-exit = λ κs e. e }
 
 -- "Master read: 1, 2, 3"
 abbrev pub master-read : EntryPoint
-master-read = record { ended = frames.master_read.ended; routine = frames.master_read.Symbol.routine; promise = frames.master_read.clauses; told = λ κs r. toldWord r; at-exit = λ κs e. e }
+master-read = record { ended = frames.master_read.ended; routine = frames.master_read.Symbol.routine; promise = frames.master_read.clauses; refuses = 1 ∷ 2 ∷ 3 ∷ []; told = λ κs r. toldWord r; at-exit = λ κs e. e }
 
 -- "Master write, of a word: 3, 4"
 abbrev pub master-write : EntryPoint
-master-write = record { ended = frames.master_write.ended; routine = frames.master_write.Symbol.routine; promise = frames.master_write.clauses; told = λ κs r. toldWrote r; at-exit = λ κs e. e }
+master-write = record { ended = frames.master_write.ended; routine = frames.master_write.Symbol.routine; promise = frames.master_write.clauses; refuses = 3 ∷ 4 ∷ []; told = λ κs r. toldWrote r; at-exit = λ κs e. e }
 
 -- "Slave read: 3 (of the expected F_code; above 15 also 3), 1, 2, 4"
 abbrev pub slave-read : EntryPoint
-slave-read = record { ended = frames.slave_read.ended; routine = frames.slave_read.Symbol.routine; promise = frames.slave_read.clauses; told = λ κs r. toldWrote r; at-exit = λ κs e. e }
+slave-read = record { ended = frames.slave_read.ended; routine = frames.slave_read.Symbol.routine; promise = frames.slave_read.clauses; refuses = 3 ∷ 1 ∷ 2 ∷ 4 ∷ []; told = λ κs r. toldWrote r; at-exit = λ κs e. e }
 
 -- "Slave write: 3, 1, 4"
 abbrev pub slave-write : EntryPoint
-slave-write = record { ended = frames.slave_write.ended; routine = frames.slave_write.Symbol.routine; promise = frames.slave_write.clauses; told = λ κs r. toldWrote r; at-exit = λ κs e. e }
+slave-write = record { ended = frames.slave_write.ended; routine = frames.slave_write.Symbol.routine; promise = frames.slave_write.clauses; refuses = 3 ∷ 1 ∷ 4 ∷ []; told = λ κs r. toldWrote r; at-exit = λ κs e. e }
 
--- silence, a reply or a collision, of any bytes; it refuses nothing
+-- silence, a reply or a collision, of any bytes
 abbrev pub line-answer : EntryPoint
-line-answer = record { ended = frames.line_answer.ended; routine = frames.line_answer.Symbol.routine; promise = frames.line_answer.clauses; told = λ κs r. toldLine r; at-exit = λ κs e. e }
+line-answer = record { ended = frames.line_answer.ended; routine = frames.line_answer.Symbol.routine; promise = frames.line_answer.clauses; refuses = []; told = λ κs r. toldLine r; at-exit = λ κs e. e }
 
 -- the check sequence, as C calls it
 abbrev pub mvb-check-of : EntryPoint
-mvb-check-of = record { ended = mvb.frame_calls.mvb_check_of.ended; routine = mvb.frame_calls.mvb_check_of.Symbol.routine; promise = mvb.frame_calls.mvb_check_of.clauses; told = λ κs r. toldCode r; at-exit = λ κs e. e }
+mvb-check-of = record { ended = mvb.frame_calls.mvb_check_of.ended; routine = mvb.frame_calls.mvb_check_of.Symbol.routine; promise = mvb.frame_calls.mvb_check_of.clauses; refuses = []; told = λ κs r. toldCode r; at-exit = λ κs e. e }
 
--- the same as C calls it: 1, 2, 3
+-- the same as C calls it
 abbrev pub mvb-master-read : EntryPoint
-mvb-master-read = record { ended = mvb.frame_calls.mvb_master_read.ended; routine = mvb.frame_calls.mvb_master_read.Symbol.routine; promise = mvb.frame_calls.mvb_master_read.clauses; told = λ κs r. toldCode r; at-exit = λ κs e. e }
+mvb-master-read = record { ended = mvb.frame_calls.mvb_master_read.ended; routine = mvb.frame_calls.mvb_master_read.Symbol.routine; promise = mvb.frame_calls.mvb_master_read.clauses; refuses = 1 ∷ 2 ∷ 3 ∷ []; told = λ κs r. toldCode r; at-exit = λ κs e. e }
 
--- the same as C calls it: 3, 4
+-- the same as C calls it
 abbrev pub mvb-master-write : EntryPoint
-mvb-master-write = record { ended = mvb.frame_calls.mvb_master_write.ended; routine = mvb.frame_calls.mvb_master_write.Symbol.routine; promise = mvb.frame_calls.mvb_master_write.clauses; told = λ κs r. toldCode r; at-exit = λ κs e. e }
+mvb-master-write = record { ended = mvb.frame_calls.mvb_master_write.ended; routine = mvb.frame_calls.mvb_master_write.Symbol.routine; promise = mvb.frame_calls.mvb_master_write.clauses; refuses = 3 ∷ 4 ∷ []; told = λ κs r. toldCode r; at-exit = λ κs e. e }
 
--- the same as C calls it: 3, 1, 2, 4
+-- the same as C calls it
 abbrev pub mvb-slave-read : EntryPoint
-mvb-slave-read = record { ended = mvb.frame_calls.mvb_slave_read.ended; routine = mvb.frame_calls.mvb_slave_read.Symbol.routine; promise = mvb.frame_calls.mvb_slave_read.clauses; told = λ κs r. toldCode r; at-exit = λ κs e. e }
+mvb-slave-read = record { ended = mvb.frame_calls.mvb_slave_read.ended; routine = mvb.frame_calls.mvb_slave_read.Symbol.routine; promise = mvb.frame_calls.mvb_slave_read.clauses; refuses = 3 ∷ 1 ∷ 2 ∷ 4 ∷ []; told = λ κs r. toldCode r; at-exit = λ κs e. e }
 
--- the same as C calls it: 3, 1, 4
+-- the same as C calls it
 abbrev pub mvb-slave-write : EntryPoint
-mvb-slave-write = record { ended = mvb.frame_calls.mvb_slave_write.ended; routine = mvb.frame_calls.mvb_slave_write.Symbol.routine; promise = mvb.frame_calls.mvb_slave_write.clauses; told = λ κs r. toldCode r; at-exit = λ κs e. e }
+mvb-slave-write = record { ended = mvb.frame_calls.mvb_slave_write.ended; routine = mvb.frame_calls.mvb_slave_write.Symbol.routine; promise = mvb.frame_calls.mvb_slave_write.clauses; refuses = 3 ∷ 1 ∷ 4 ∷ []; told = λ κs r. toldCode r; at-exit = λ κs e. e }
 
 -- ---- telegram times and the guard
 
--- "3, then 6 for a gap outside 4 to 128"
+-- "A telegram takes 33 + line bits of its Slave Frame + gap"
 abbrev pub telegram-bits : EntryPoint
-telegram-bits = record { ended = timing.telegram_bits.ended; routine = timing.telegram_bits.Symbol.routine; promise = timing.telegram_bits.clauses; told = λ κs r. toldTelegram r; at-exit = λ κs e. e }
+telegram-bits = record { ended = timing.telegram_bits.ended; routine = timing.telegram_bits.Symbol.routine; promise = timing.telegram_bits.clauses; refuses = 3 ∷ 6 ∷ []; told = λ κs r. toldTelegram r; at-exit = λ κs e. e }
 
--- "Guard ..: yes exactly if that telegram takes at most r. Refused: 3, then 6"
+-- "Guard ..: yes exactly if that telegram takes at most r"
 abbrev pub guard : EntryPoint
-guard = record { ended = timing.guard.ended; routine = timing.guard.Symbol.routine; promise = timing.guard.clauses; told = λ κs r. toldMaySend r; at-exit = λ κs e. e }
+guard = record { ended = timing.guard.ended; routine = timing.guard.Symbol.routine; promise = timing.guard.clauses; refuses = 3 ∷ 6 ∷ []; told = λ κs r. toldMaySend r; at-exit = λ κs e. e }
 
--- the same as C calls it: 3, 6
+-- the same as C calls it
 abbrev pub mvb-telegram-bits : EntryPoint
-mvb-telegram-bits = record { ended = mvb.timing_calls.mvb_telegram_bits.ended; routine = mvb.timing_calls.mvb_telegram_bits.Symbol.routine; promise = mvb.timing_calls.mvb_telegram_bits.clauses; told = λ κs r. toldCode r; at-exit = λ κs e. e }
+mvb-telegram-bits = record { ended = mvb.timing_calls.mvb_telegram_bits.ended; routine = mvb.timing_calls.mvb_telegram_bits.Symbol.routine; promise = mvb.timing_calls.mvb_telegram_bits.clauses; refuses = 3 ∷ 6 ∷ []; told = λ κs r. toldCode r; at-exit = λ κs e. e }
 
--- the same as C calls it: 3, 6
+-- the same as C calls it
 abbrev pub mvb-guard : EntryPoint
-mvb-guard = record { ended = mvb.timing_calls.mvb_guard.ended; routine = mvb.timing_calls.mvb_guard.Symbol.routine; promise = mvb.timing_calls.mvb_guard.clauses; told = λ κs r. toldCode r; at-exit = λ κs e. e }
+mvb-guard = record { ended = mvb.timing_calls.mvb_guard.ended; routine = mvb.timing_calls.mvb_guard.Symbol.routine; promise = mvb.timing_calls.mvb_guard.clauses; refuses = 3 ∷ 6 ∷ []; told = λ κs r. toldCode r; at-exit = λ κs e. e }
 
 -- ---- the list file, Basic Periods and the list program's text
 
 -- "a place at or past the end gives 5"
 abbrev pub number-at : EntryPoint
-number-at = record { ended = numbers.number_at.ended; routine = numbers.number_at.Symbol.routine; promise = numbers.number_at.clauses; told = λ κs r. toldNumber r; at-exit = λ κs e. e }
+number-at = record { ended = numbers.number_at.ended; routine = numbers.number_at.Symbol.routine; promise = numbers.number_at.clauses; refuses = 5 ∷ []; told = λ κs r. toldNumber r; at-exit = λ κs e. e }
 
--- "a reader that carries the list's bytes and its place"; it refuses nothing
+-- "a reader that carries the list's bytes and its place"
 abbrev pub reader-new : EntryPoint
-reader-new = record { ended = numbers.Reader.new.ended; routine = numbers.Reader.new.Symbol.routine; promise = numbers.Reader.new.clauses; told = λ κs r. value (r .at); at-exit = λ κs e. e }
+reader-new = record { ended = numbers.Reader.new.ended; routine = numbers.Reader.new.Symbol.routine; promise = numbers.Reader.new.clauses; refuses = []; told = λ κs r. value (r .at); at-exit = λ κs e. e }
 
--- its next number: 5
+-- its next number
 abbrev pub reader-next : EntryPoint
-reader-next = record { ended = numbers.Reader.next.ended; routine = numbers.Reader.next.Symbol.routine; promise = numbers.Reader.next.clauses; told = λ κs r. toldNumber r; at-exit = λ κs e. e }
+reader-next = record { ended = numbers.Reader.next.ended; routine = numbers.Reader.next.Symbol.routine; promise = numbers.Reader.next.clauses; refuses = 5 ∷ []; told = λ κs r. toldNumber r; at-exit = λ κs e. e }
 
--- a number through a reader: 5
+-- a number through a reader
 abbrev pub read-number : EntryPoint
-read-number = record { ended = numbers.read_number.ended; routine = numbers.read_number.Symbol.routine; promise = numbers.read_number.clauses; told = λ κs r. toldNumber r; at-exit = λ κs e. e }
+read-number = record { ended = numbers.read_number.ended; routine = numbers.read_number.Symbol.routine; promise = numbers.read_number.clauses; refuses = 5 ∷ []; told = λ κs r. toldNumber r; at-exit = λ κs e. e }
 
--- numbers one after another as far as they go; it refuses nothing
+-- numbers one after another, as far as they go
 abbrev pub read-numbers : EntryPoint
-read-numbers = record { ended = numbers.read_numbers.ended; routine = numbers.read_numbers.Symbol.routine; promise = numbers.read_numbers.clauses; told = λ κs r. gives (r .count ∷ r .next ∷ []); at-exit = λ κs e. e }
+read-numbers = record { ended = numbers.read_numbers.ended; routine = numbers.read_numbers.Symbol.routine; promise = numbers.read_numbers.clauses; refuses = []; told = λ κs r. gives (r .count ∷ r .next ∷ []); at-exit = λ κs e. e }
 
--- "n from 0 to 10 (to 9 for 2 ms)"; it refuses nothing
+-- "n from 0 to 10 (to 9 for 2 ms)"
 abbrev pub cycles-of : EntryPoint
-cycles-of = record { ended = lists.cycles_of.ended; routine = lists.cycles_of.Symbol.routine; promise = lists.cycles_of.clauses; told = λ κs r. value r; at-exit = λ κs e. e }
+cycles-of = record { ended = lists.cycles_of.ended; routine = lists.cycles_of.Symbol.routine; promise = lists.cycles_of.clauses; refuses = []; told = λ κs r. value r; at-exit = λ κs e. e }
 
--- "1,024 Basic Periods for 1 ms, 512 for 2 ms"; it refuses nothing
+-- "1,024 Basic Periods for 1 ms, 512 for 2 ms"
 abbrev pub periods-of : EntryPoint
-periods-of = record { ended = lists.periods_of.ended; routine = lists.periods_of.Symbol.routine; promise = lists.periods_of.clauses; told = λ κs r. value r; at-exit = λ κs e. e }
+periods-of = record { ended = lists.periods_of.ended; routine = lists.periods_of.Symbol.routine; promise = lists.periods_of.clauses; refuses = []; told = λ κs r. value r; at-exit = λ κs e. e }
 
--- "1 for the file, then 5, 6, 7, 8; 9 after a cycle's last split number. After the last cycle 11, then 10, then 19"
+-- whether a list is accepted
 abbrev pub list-check : EntryPoint
-list-check = record { ended = lists.list_check.ended; routine = lists.list_check.Symbol.routine; promise = lists.list_check.clauses; told = λ κs r. toldCheck r; at-exit = λ κs e. e }
+list-check = record { ended = lists.list_check.ended; routine = lists.list_check.Symbol.routine; promise = lists.list_check.clauses; refuses = listRefusals; told = λ κs r. toldCheck r; at-exit = λ κs e. e }
 
--- a cycle as it stands in a file, as far as it goes; it refuses nothing
+-- a cycle as it stands in a file, as far as it goes
 abbrev pub cycle-at : EntryPoint
-cycle-at = record { ended = lists.cycle_at.ended; routine = lists.cycle_at.Symbol.routine; promise = lists.cycle_at.clauses; told = λ κs r. gives (r .words ∷ r .splits ∷ r .next ∷ []); at-exit = λ κs e. e }
+cycle-at = record { ended = lists.cycle_at.ended; routine = lists.cycle_at.Symbol.routine; promise = lists.cycle_at.clauses; refuses = []; told = λ κs r. gives (r .words ∷ r .splits ∷ r .next ∷ []); at-exit = λ κs e. e }
 
 -- "all list refusals first, then 12, then 4"
 abbrev pub basic-period : EntryPoint
-basic-period = record { ended = periods.basic_period.ended; routine = periods.basic_period.Symbol.routine; promise = periods.basic_period.clauses; told = λ κs r. toldSent r; at-exit = λ κs e. e }
+basic-period = record { ended = periods.basic_period.ended; routine = periods.basic_period.Symbol.routine; promise = periods.basic_period.clauses; refuses = 12 ∷ 4 ∷ listRefusals; told = λ κs r. toldSent r; at-exit = λ κs e. e }
 
--- the list program's text: 4
+-- the list program's text
 abbrev pub list-text : EntryPoint
-list-text = record { ended = texts.list_text.ended; routine = texts.list_text.Symbol.routine; promise = texts.list_text.clauses; told = λ κs r. toldText r; at-exit = λ κs e. e }
+list-text = record { ended = texts.list_text.ended; routine = texts.list_text.Symbol.routine; promise = texts.list_text.clauses; refuses = 4 ∷ []; told = λ κs r. toldText r; at-exit = λ κs e. e }
 
 -- ---- ports and ages; C calls these themselves
 
--- goodness test and lookup over any table; it refuses nothing
+-- goodness test and lookup, over any table
 abbrev pub look : EntryPoint
-look = record { ended = port-table.look.ended; routine = port-table.look.Symbol.routine; promise = port-table.look.clauses; told = λ κs r. yesNo (r .good); at-exit = λ κs e. e }
+look = record { ended = port-table.look.ended; routine = port-table.look.Symbol.routine; promise = port-table.look.clauses; refuses = []; told = λ κs r. yesNo (r .good); at-exit = λ κs e. e }
 
--- "a frame arrives for a sink": 13, 4, 4, 14, 15, 16, 17, 1, 2
+-- "a frame arrives for a sink"
 abbrev pub mvb-arrive : EntryPoint
-mvb-arrive = record { ended = ports.mvb_arrive.ended; routine = ports.mvb_arrive.Symbol.routine; promise = ports.mvb_arrive.clauses; told = λ κs r. toldCode r; at-exit = λ κs e. e }
+mvb-arrive = record { ended = ports.mvb_arrive.ended; routine = ports.mvb_arrive.Symbol.routine; promise = ports.mvb_arrive.clauses; refuses = 13 ∷ 4 ∷ 14 ∷ 15 ∷ 16 ∷ 17 ∷ 1 ∷ 2 ∷ []; told = λ κs r. toldCode r; at-exit = λ κs e. e }
 
--- "a source answers a request": 13, 4, 14, 15, 16, 17, 4
+-- "a source answers a request"
 abbrev pub mvb-answer : EntryPoint
-mvb-answer = record { ended = ports.mvb_answer.ended; routine = ports.mvb_answer.Symbol.routine; promise = ports.mvb_answer.clauses; told = λ κs r. toldCode r; at-exit = λ κs e. e }
+mvb-answer = record { ended = ports.mvb_answer.ended; routine = ports.mvb_answer.Symbol.routine; promise = ports.mvb_answer.clauses; refuses = 13 ∷ 4 ∷ 14 ∷ 15 ∷ 16 ∷ 17 ∷ []; told = λ κs r. toldCode r; at-exit = λ κs e. e }
 
--- "the application reads a sink": 13, 4, 4, 15, 17, 4
+-- "the application reads a sink"
 abbrev pub mvb-read : EntryPoint
-mvb-read = record { ended = ports.mvb_read.ended; routine = ports.mvb_read.Symbol.routine; promise = ports.mvb_read.clauses; told = λ κs r. toldCode r; at-exit = λ κs e. e }
+mvb-read = record { ended = ports.mvb_read.ended; routine = ports.mvb_read.Symbol.routine; promise = ports.mvb_read.clauses; refuses = 13 ∷ 4 ∷ 15 ∷ 17 ∷ []; told = λ κs r. toldCode r; at-exit = λ κs e. e }
 
--- "or fills a source": 13, 4, 15, 17, 1
+-- "or fills a source"
 abbrev pub mvb-fill : EntryPoint
-mvb-fill = record { ended = ports.mvb_fill.ended; routine = ports.mvb_fill.Symbol.routine; promise = ports.mvb_fill.clauses; told = λ κs r. toldCode r; at-exit = λ κs e. e }
+mvb-fill = record { ended = ports.mvb_fill.ended; routine = ports.mvb_fill.Symbol.routine; promise = ports.mvb_fill.clauses; refuses = 13 ∷ 4 ∷ 15 ∷ 17 ∷ 1 ∷ []; told = λ κs r. toldCode r; at-exit = λ κs e. e }
 
 -- "The tick knows only 13 and 4"
 abbrev pub mvb-tick : EntryPoint
-mvb-tick = record { ended = ports.mvb_tick.ended; routine = ports.mvb_tick.Symbol.routine; promise = ports.mvb_tick.clauses; told = λ κs r. toldCode r; at-exit = λ κs e. e }
+mvb-tick = record { ended = ports.mvb_tick.ended; routine = ports.mvb_tick.Symbol.routine; promise = ports.mvb_tick.clauses; refuses = 13 ∷ 4 ∷ []; told = λ κs r. toldCode r; at-exit = λ κs e. e }
 
 -- ---- the event round and the search
 
--- 2^(12-M); it refuses nothing
+-- 2^(12-M)
 abbrev pub bound : EntryPoint
-bound = record { ended = groups.bound.ended; routine = groups.bound.Symbol.routine; promise = groups.bound.clauses; told = λ κs r. value r; at-exit = λ κs e. e }
+bound = record { ended = groups.bound.ended; routine = groups.bound.Symbol.routine; promise = groups.bound.clauses; refuses = []; told = λ κs r. value r; at-exit = λ κs e. e }
 
--- whether {M, C} is a group; it refuses nothing
+-- whether {M, C} is a group
 abbrev pub is-group : EntryPoint
-is-group = record { ended = groups.is_group.ended; routine = groups.is_group.Symbol.routine; promise = groups.is_group.clauses; told = λ κs r. yesNo r; at-exit = λ κs e. e }
+is-group = record { ended = groups.is_group.ended; routine = groups.is_group.Symbol.routine; promise = groups.is_group.clauses; refuses = []; told = λ κs r. yesNo r; at-exit = λ κs e. e }
 
--- whether an address is in it; it refuses nothing
+-- whether an address is in it
 abbrev pub in-group : EntryPoint
-in-group = record { ended = groups.in_group.ended; routine = groups.in_group.Symbol.routine; promise = groups.in_group.clauses; told = λ κs r. yesNo r; at-exit = λ κs e. e }
+in-group = record { ended = groups.in_group.ended; routine = groups.in_group.Symbol.routine; promise = groups.in_group.clauses; refuses = []; told = λ κs r. yesNo r; at-exit = λ κs e. e }
 
--- the start: "4,096 or more: 6"
+-- the start
 abbrev pub round-start : EntryPoint
-round-start = record { ended = rounds.Round.start.ended; routine = rounds.Round.start.Symbol.routine; promise = rounds.Round.start.clauses; told = λ κs r. Rounds.told r; at-exit = λ κs e. e }
+round-start = record { ended = rounds.Round.start.ended; routine = rounds.Round.start.Symbol.routine; promise = rounds.Round.start.clauses; refuses = 6 ∷ []; told = λ κs r. Rounds.told r; at-exit = λ κs e. e }
 
--- a step: 18
+-- a step
 abbrev pub round-answer : EntryPoint
-round-answer = record { ended = rounds.Round.answer.ended; routine = rounds.Round.answer.Symbol.routine; promise = rounds.Round.answer.clauses; told = λ κs r. Rounds.told r; at-exit = λ κs e. e }
+round-answer = record { ended = rounds.Round.answer.ended; routine = rounds.Round.answer.Symbol.routine; promise = rounds.Round.answer.clauses; refuses = 18 ∷ []; told = λ κs r. Rounds.told r; at-exit = λ κs e. e }
 
--- "other length 1, checked first", then 4
+-- the search over a lent set
 abbrev pub search-set : EntryPoint
-search-set = record { ended = search-of.search_set.ended; routine = search-of.search_set.Symbol.routine; promise = search-of.search_set.clauses; told = λ κs r. Searches.told r; at-exit = λ κs e. e }
+search-set = record { ended = search-of.search_set.ended; routine = search-of.search_set.Symbol.routine; promise = search-of.search_set.clauses; refuses = 1 ∷ 4 ∷ []; told = λ κs r. Searches.told r; at-exit = λ κs e. e }
 
--- the start as C calls it: 6, 4
+-- the start as C calls it
 abbrev pub mvb-round-start : EntryPoint
-mvb-round-start = record { ended = mvb.round_calls.mvb_round_start.ended; routine = mvb.round_calls.mvb_round_start.Symbol.routine; promise = mvb.round_calls.mvb_round_start.clauses; told = λ κs r. toldCode r; at-exit = λ κs e. e }
+mvb-round-start = record { ended = mvb.round_calls.mvb_round_start.ended; routine = mvb.round_calls.mvb_round_start.Symbol.routine; promise = mvb.round_calls.mvb_round_start.clauses; refuses = 6 ∷ 4 ∷ []; told = λ κs r. toldCode r; at-exit = λ κs e. e }
 
--- a step as C calls it: 4, 18
+-- a step as C calls it
 abbrev pub mvb-round-answer : EntryPoint
-mvb-round-answer = record { ended = mvb.round_calls.mvb_round_answer.ended; routine = mvb.round_calls.mvb_round_answer.Symbol.routine; promise = mvb.round_calls.mvb_round_answer.clauses; told = λ κs r. toldCode r; at-exit = λ κs e. e }
+mvb-round-answer = record { ended = mvb.round_calls.mvb_round_answer.ended; routine = mvb.round_calls.mvb_round_answer.Symbol.routine; promise = mvb.round_calls.mvb_round_answer.clauses; refuses = 4 ∷ 18 ∷ []; told = λ κs r. toldCode r; at-exit = λ κs e. e }
 
--- the search as C calls it: 1, 4
+-- the search as C calls it
 abbrev pub mvb-search : EntryPoint
-mvb-search = record { ended = mvb.round_calls.mvb_search.ended; routine = mvb.round_calls.mvb_search.Symbol.routine; promise = mvb.round_calls.mvb_search.clauses; told = λ κs r. toldCode r; at-exit = λ κs e. e }
+mvb-search = record { ended = mvb.round_calls.mvb_search.ended; routine = mvb.round_calls.mvb_search.Symbol.routine; promise = mvb.round_calls.mvb_search.clauses; refuses = 1 ∷ 4 ∷ []; told = λ κs r. toldCode r; at-exit = λ κs e. e }
 
 -- all of them
 abbrev pub entryPoints : List EntryPoint
