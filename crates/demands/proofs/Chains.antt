@@ -1,15 +1,17 @@
 -- Chains of checks: a refusal is a number of document 01, and what was lent is as it was. One lemma over chains serves every entry point.
 -- Assumes nothing.
 use mathlib.Core.Path.{_≡_, refl, sym, ap, subst, _∙_}
-use mathlib.Core.Bool.{Bool, true, false, cond, _&&_, _||_, false≢true}
-use mathlib.Core.List.{List, [], _∷_, List·Memᴰ, List·Memᴰ·head, List·Memᴰ·tail}
+use mathlib.Core.Bool.{Bool, true, false, cond, _&&_, false≢true}
+use mathlib.Core.List.{List, [], _∷_, List·Memᴰ}
 use Prim.Native.Nat.{ℕ, _≤_}
 use native.Mathlib.Omega.{arith}
-use lib.Dec.{eqb, leb}
-use borrow.Author.Tests.{eqb-true, leb-true, ne-eqb}
+use lib.Dec.{leb}
+use borrow.Author.Tests.{leb-true, ne-eqb}
 use Rattle.refusals.specs.Told.{Told, gives, refused, refusal}
 use Rattle.ports.specs.Lent.{answered}
 use Rattle.demands.specs.Demand1.{Refusing}
+use Rattle.demands.specs.Demand3.{among}
+use Rattle.demands.proofs.Members.{is-among}
 
 -- a number of the table, and one of these
 abbrev pub Listed : List ℕ → ℕ → Type 0
@@ -36,19 +38,6 @@ abbrev pub first : {A : Type 0} → List (Bool × ℕ) → (ℕ → A) → A →
 first [] denial done = done
 first (c ∷ cs) denial done = cond (c .0) (denial (c .1)) (first cs denial done)
 
--- a number is one of these, as a test
-abbrev among : ℕ → List ℕ → Bool
-among n [] = false
-among n (k ∷ ks) = eqb k n || among n ks
-
-member : (n : ℕ) (ks : List ℕ) → among n ks ≡ true → List·Memᴰ n ks
-member n [] h = absurd (false≢true h)
-member n (k ∷ ks) h = go (eqb k n) refl h (λ t. member n ks t)
-  where
-    go : (b : Bool) → eqb k n ≡ b → (b || among n ks) ≡ true → (among n ks ≡ true → List·Memᴰ n ks) → List·Memᴰ n (k ∷ ks)
-    go true e h rest = List·Memᴰ·head (sym (eqb-true k n e))
-    go false e h rest = List·Memᴰ·tail (rest h)
-
 -- a number is listed, as a test
 abbrev pub isListed : List ℕ → ℕ → Bool
 isListed ns k = leb 1 k && (leb k 19 && among k ns)
@@ -66,7 +55,7 @@ pub listed : (ns : List ℕ) (k : ℕ) → isListed ns k ≡ true → Listed ns 
 listed ns k h =
     let p = both (leb 1 k) (leb k 19 && among k ns) h in
     let q = both (leb k 19) (among k ns) (p .1) in
-    (leb-true 1 k (p .0), leb-true k 19 (q .0), member k ns (q .1))
+    (leb-true 1 k (p .0), leb-true k 19 (q .0), is-among k ns (q .1))
 
 -- a chain before more
 pub after : {X : Type 0} (ns : List ℕ) (cs : List (Bool × ℕ)) (t : Told) (new old : X) → allListed ns cs ≡ true → Refusing ns t (new ≡ old)

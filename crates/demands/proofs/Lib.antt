@@ -1,3 +1,4 @@
+pub mod Members
 pub mod Chains
 pub mod RefusedCalls
 pub mod RefusedLists
@@ -5,3 +6,4 @@ pub mod RefusedPorts
 pub mod Shown
 pub mod Rows
 pub mod Demand1
+pub mod Demand3
