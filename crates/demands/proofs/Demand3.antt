@@ -85,6 +85,13 @@ rising-once lo a (b ∷ l) r = go (ℕ-discrete b a) (rising-once (reversed 12 b
 
 -- ---- the demand
 
+-- an end has one set of counts, so the requests that a round reports are those that it handed out
+pub reported-of : {S : ℕ → Bool} (h : History) (all : AllRead S h) (end : Ending h) → all .counts .requests ≡ requestsIn h
+reported-of h all end =
+    let e : End (end .round) (end .counts) ≡ End (all .round) (all .counts) = sym (end .last) ∙ all .last in
+    let same : end .counts ≡ all .counts = cc in
+    ap (λ (c : Counts). c .requests) (sym same) ∙ end .reported
+
 module _ (k : ℕ) (ds : Devices k) (h : History) (all : AllRead (have ds) h) (end : Ending h) where
   read-once : (a : ℕ) → times a (readOrder (h .sent)) ≡ one (have ds a)
   read-once a = go (have ds a) refl
@@ -105,13 +112,6 @@ module _ (k : ℕ) (ds : Devices k) (h : History) (all : AllRead (have ds) h) (e
   devices-are : howMany (have ds) 4096 ≡ k
   devices-are = as-many (ds .addresses) 4096 (ds .different) (ds .small) ∙ ds .many
 
-  -- an end has one set of counts
-  same-counts : end .counts ≡ all .counts
-  same-counts = let e : End (end .round) (end .counts) ≡ End (all .round) (all .counts) = sym (end .last) ∙ all .last in cc
-
-  reported : all .counts .requests ≡ requestsIn h
-  reported = ap (λ (c : Counts). c .requests) (sym same-counts) ∙ end .reported
-
   each-read : EachRead k ds h
   each-read = record {
     round = all .round;
@@ -119,8 +119,8 @@ module _ (k : ℕ) (ds : Devices k) (h : History) (all : AllRead (have ds) h) (e
     over = all .last;
     once = read-once;
     order = all .rising;
-    most = subst (λ (x : ℕ). x ≤ 1 + 24 * (k / 2)) reported (subst (λ (x : ℕ). all .counts .requests ≤ 1 + 24 * (x / 2)) devices-are (all .requests));
-    requests = reported;
+    most = subst (λ (x : ℕ). x ≤ 1 + 24 * (k / 2)) (reported-of h all end) (subst (λ (x : ℕ). all .counts .requests ≤ 1 + 24 * (x / 2)) devices-are (all .requests));
+    requests = reported-of h all end;
     reads = all .reads ∙ devices-are;
     unresolved = all .unresolved;
   }

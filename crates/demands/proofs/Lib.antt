@@ -6,4 +6,6 @@ pub mod RefusedPorts
 pub mod Shown
 pub mod Rows
 pub mod Demand1
+pub mod Demand2
 pub mod Demand3
+pub mod Starred
