@@ -7,7 +7,7 @@ use Prim.Native.Nat.{ℕ, _≤_}
 use native.Mathlib.Omega.{arith}
 use lib.Dec.{leb}
 use borrow.Author.Tests.{leb-true, ne-eqb}
-use Rattle.refusals.specs.Told.{Told, gives, refused, refusal}
+use Rattle.refusals.specs.Told.{Told, gives, refusal}
 use Rattle.ports.specs.Lent.{answered}
 use Rattle.demands.specs.Demand1.{Refusing}
 use Rattle.demands.specs.Demand3.{among}

@@ -1,7 +1,7 @@
 -- Demand 2, from what the crates of frames, lists, Basic Periods and ports prove.
 -- Assumes nothing.
-use mathlib.Core.Path.{_≡_, refl, sym, ap, _∙_, subst}
-use mathlib.Core.Bool.{Bool, true, false, cond}
+use mathlib.Core.Path.{_≡_, refl, sym, ap, _∙_}
+use mathlib.Core.Bool.{true, false}
 use mathlib.Core.List.{List, [], _∷_, _++_}
 use Prim.Native.Nat.{ℕ, _≤_, _<_}
 use native.Mathlib.Omega.{arith}
@@ -22,13 +22,13 @@ use Rattle.lists.specs.Reading.{Read, denied, took}
 use Rattle.lists.specs.Sends.{sends}
 use Rattle.lists.specs.Accepts.{accepted}
 use Rattle.lists.specs.Answers.{toldRead}
-use Rattle.lists.specs.Written.{file, Obeys}
 use Rattle.lists.proofs.Acceptance.{accepted-obeys, accepted-exactly, one-list}
 use Rattle.lists.proofs.OrderLaws as order
-use Rattle.periods.specs.Period.{askedBy, periodBy}
+use Rattle.periods.specs.Period.{periodBy}
 use Rattle.periods.proofs.OnceLaws as once
 use Rattle.ports.proofs.OwnPortOnly as own
-use Rattle.demands.specs.Demand2.{Frames, header, IsFile, Lists, OwnPortOnly, Demand2}
+use Rattle.ports.proofs.ThroughTheBus as bus
+use Rattle.demands.specs.Demand2.{Frames, header, IsFile, Lists, Demand2}
 
 -- ---- frames
 
@@ -101,5 +101,9 @@ demand-2 = record {
     other-ports = own.other-ports ps store ages word frame;
     own-data = own.own-data ps store ages word frame;
     own-age = own.own-age ps store ages word frame;
+  };
+  through-the-bus = λ ps store word d out n filled sent qs store' ages' sink. record {
+    taken = bus.taken ps store word d out n filled sent qs store' ages' sink;
+    data-read = bus.same-data ps store word d out n filled sent qs store' ages' sink;
   };
 }

@@ -3,22 +3,22 @@
 use mathlib.Core.Path.{_≡_, refl, sym, ap, ap₂, _∙_, subst}
 use mathlib.Core.Bool.{Bool, true, false, cond, _||_, false≢true}
 use mathlib.Core.Logic.{⊎-elim}
-use mathlib.Core.List.{List, [], _∷_, List·Memᴰ, List·Memᴰ·head, List·Memᴰ·tail, List·Memᴰ·not-nil, List·Memᴰ·cases-cons}
+use mathlib.Core.List.{List, [], _∷_, List·Memᴰ, List·Memᴰ·not-nil, List·Memᴰ·cases-cons}
 use Prim.Native.Nat.{ℕ, zero, suc, _+_, _*_, _/_, _≤_, _<_}
 use native.Mathlib.Decide.{ℕ-discrete}
 use native.Mathlib.Numerals.{one-add}
 use native.Mathlib.Omega.{arith}
 use lib.Dec.{eqb}
 use lib.ListN.{length}
-use borrow.Author.Tests.{eq-eqb, ne-eqb, eqb-true}
+use borrow.Author.Tests.{eq-eqb, ne-eqb}
 use Rattle.frames.proofs.Apart.{lines-apart}
 use Rattle.frames.specs.Line.{answerOf}
 use Rattle.groups.specs.Sets.{howMany, reversed, Rising}
 use Rattle.rounds.specs.declared.Counts.{Counts}
 use Rattle.rounds.specs.declared.Step.the-variants.{End}
 use Rattle.rounds.specs.Rounds.{startOf, stepOf}
-use Rattle.rounds.specs.Lines.{Line, History, run, isRequest, counted, Ending}
-use Rattle.rounds.specs.Demand.{Truthful, readOrder, AllRead}
+use Rattle.rounds.specs.Lines.{History, run, Ending}
+use Rattle.rounds.specs.Demand.{readOrder, AllRead}
 use Rattle.rounds.proofs.Apart.{steps-apart}
 use Rattle.rounds.proofs.Demand as rounds
 use Rattle.rounds.proofs.Bytes.{trueBytes}

@@ -8,7 +8,7 @@ use native.Mathlib.Decide.{decLe}
 use native.Mathlib.Omega.{arith}
 use lib.Dec.{eqb, ltb, leb}
 use lib.ListN.{length, drop}
-use Rattle.refusals.specs.Told.{Told, gives, refusal}
+use Rattle.refusals.specs.Told.{gives, refusal}
 use Rattle.numbers.specs.Number.{Taken, bad, taken, number as numberFirst, from, numberAt}
 use Rattle.lists.specs.Values.{PeriodicList, periodsOf, wordsOf, sum}
 use Rattle.lists.specs.Rules.{Check, right, wrong, unless, also, listable, clashes, splitRule}

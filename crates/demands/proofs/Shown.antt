@@ -1,4 +1,4 @@
--- From a promise that is a plain claim to demand 1 and to one result.
+-- What is shown of an entry point's promise, and how demand 1 and one result for one input follow.
 -- Assumes nothing.
 use mathlib.Core.Path.{_≡_, subst, sym}
 use mathlib.Core.List.{List, [], _∷_}
@@ -13,72 +13,86 @@ use contract.Monad.{fact, factI, fact-mono, fact-use, Fun}
 use contract.Running.{givenOf}
 use denote.Ask.Run.{routine-mono}
 use denote.Triple.Entry.{Args, Res}
-use denote.Triple.Clauses.{ClausesAt, Clauses, Lasts, lasts, AtExit, atExit}
+use denote.Triple.Clauses.{ClausesAt, Lasts, lasts, AtExit, atExit}
 use denote.Triple.Weaken.{weaken-under}
 use Rattle.demands.specs.EntryPoints.{EntryPoint}
 use Rattle.demands.specs.Demand1.{Refusing, asked, Demanded, Promised, Each}
 use Rattle.demands.specs.OneResult.{OneResult}
 
--- clauses that require nothing and ensure a plain claim
-abbrev pub plainly : {M : Type 1} (𝓤 : URA M) (f : EntryPoint) (κs : Lfts (f .ended .signature .lifetimes)) → (Res (f .ended .signature) κs → AtExit (f .ended) κs → Type 0) → ClausesAt 𝓤 (f .ended) κs
-plainly 𝓤 f κs Claim = record { ghost = Unit {0}; requires = λ g. emp 𝓤; ensures = λ g r e. fact 𝓤 (Claim r e) }
-
--- what a promise says, in plain words
-pub record Says (f : EntryPoint) : Type 3 where
-  pub Claim : (κs : Lfts (f .ended .signature .lifetimes)) → Args (f .ended .signature) κs → Res (f .ended .signature) κs → AtExit (f .ended) κs → Type 0
-  pub free : (M : Type 1) (𝓤 : URA M) (H : Heap 𝓤) (A : Atoms 𝓤) (mem : Memory → SProp 𝓤) (run : Routine → Fun 𝓤) (κs : Lfts (f .ended .signature .lifetimes)) (a : Args (f .ended .signature) κs)
-      → (g : f .promise 𝓤 H A mem run κs a .ghost) × ent 𝓤 (emp 𝓤) (f .promise 𝓤 H A mem run κs a .requires g)
-  pub claims : (M : Type 1) (𝓤 : URA M) (H : Heap 𝓤) (A : Atoms 𝓤) (mem : Memory → SProp 𝓤) (run : Routine → Fun 𝓤) (κs : Lfts (f .ended .signature .lifetimes)) (a : Args (f .ended .signature) κs)
-      (g : f .promise 𝓤 H A mem run κs a .ghost) (r : Res (f .ended .signature) κs) (e : AtExit (f .ended) κs) → ent 𝓤 (f .promise 𝓤 H A mem run κs a .ensures g r e) (fact 𝓤 (Claim κs a r e))
-
--- a promise of one clause, with no `requires`, says just that clause
-abbrev pub said : (f : EntryPoint) (Claim : (κs : Lfts (f .ended .signature .lifetimes)) → Args (f .ended .signature) κs → Res (f .ended .signature) κs → AtExit (f .ended) κs → Type 0)
-    → ((M : Type 1) (𝓤 : URA M) (H : Heap 𝓤) (A : Atoms 𝓤) (mem : Memory → SProp 𝓤) (run : Routine → Fun 𝓤) (κs : Lfts (f .ended .signature .lifetimes)) (a : Args (f .ended .signature) κs)
-    → f .promise 𝓤 H A mem run κs a ≡ plainly 𝓤 f κs (Claim κs a)) → Says f
-said f Claim is = record {
-  Claim = Claim;
-  free = λ M 𝓤 H A mem run κs a.
-      subst (λ (c : ClausesAt 𝓤 (f .ended) κs). (g : c .ghost) × ent 𝓤 (emp 𝓤) (c .requires g)) (sym (is M 𝓤 H A mem run κs a)) (tt, id⊢ 𝓤 (emp 𝓤));
-  claims = λ M 𝓤 H A mem run κs a.
-      subst (λ (c : ClausesAt 𝓤 (f .ended) κs). (g : c .ghost) (r : Res (f .ended .signature) κs) (e : AtExit (f .ended) κs) → ent 𝓤 (c .ensures g r e) (fact 𝓤 (Claim κs a r e)))
-      (sym (is M 𝓤 H A mem run κs a)) (λ g r e. id⊢ 𝓤 (fact 𝓤 (Claim κs a r e)));
-}
-
 -- two clauses say both
 pub two : {M : Type 1} (𝓤 : URA M) (P Q : SProp 𝓤) (A B : Type 0) → ent 𝓤 P (fact 𝓤 A) → ent 𝓤 Q (fact 𝓤 B) → ent 𝓤 (sep 𝓤 P Q) (fact 𝓤 (A × B))
 two 𝓤 P Q A B p q = fact-use 𝓤 A (via 𝓤 P (fst∗ 𝓤 P Q) p) (λ x. via 𝓤 (fact 𝓤 B) (via 𝓤 Q (snd∗ 𝓤 P Q) q) (fact-mono 𝓤 B (A × B) (λ y. (x, y))))
 
--- what is shown of an entry point
-pub record Shown (f : EntryPoint) : Type 3 where
-  pub promised : Promised f
-  pub says : Says f
-  pub refusing : (κs : Lfts (f .ended .signature .lifetimes)) (a : Args (f .ended .signature) κs) (r : Res (f .ended .signature) κs) (ws : Lasts (f .ended) κs a)
-      → says .Claim κs a r (atExit (f .ended) κs a ws) → Refusing (f .refuses) (f .told κs r) (f .at-exit κs (atExit (f .ended) κs a ws) ≡ a)
-  pub one : (κs : Lfts (f .ended .signature .lifetimes)) (a : Args (f .ended .signature) κs) (r s : Res (f .ended .signature) κs) (ws vs : Lasts (f .ended) κs a)
-      → says .Claim κs a r (atExit (f .ended) κs a ws) → says .Claim κs a s (atExit (f .ended) κs a vs) → (r ≡ s) × (ws ≡ vs)
+module _ (f : EntryPoint) where
+  abbrev Lfs : Type 0
+  Lfs = Lfts (f .ended .signature .lifetimes)
 
-pub demanded : (f : EntryPoint) → Shown f → Demanded f
-demanded f h M 𝓤 H 𝓜 𝓖 𝓡 =
-    let c : Clauses 𝓤 (f .ended) = f .promise 𝓤 H (𝓖 .A) (𝓜 .mem) (𝓡 .run) in
-    weaken-under 𝓤 H (𝓖 .A) (f .ended) (givenOf 𝓤 H 𝓜 𝓖) c (asked 𝓤 f)
-    (λ κs a g. h .says .free M 𝓤 H (𝓖 .A) (𝓜 .mem) (𝓡 .run) κs a .0)
-    (λ κs a g. Unit {0})
-    (λ κs a g. factI 𝓤 (Unit {0}) (emp 𝓤) tt)
-    (λ κs a g _. h .says .free M 𝓤 H (𝓖 .A) (𝓜 .mem) (𝓡 .run) κs a .1)
-    (λ κs a g _ r ws.
-    monoR 𝓤 (sem 𝓤 H (𝓖 .A) (lasts (f .ended) κs a ws))
-    (via 𝓤 (fact 𝓤 (h .says .Claim κs a r (atExit (f .ended) κs a ws))) (h .says .claims M 𝓤 H (𝓖 .A) (𝓜 .mem) (𝓡 .run) κs a _ r (atExit (f .ended) κs a ws))
-    (fact-mono 𝓤 _ _ (h .refusing κs a r ws))))
-    (𝓡 .run (f .routine)) (routine-mono 𝓤 H 𝓜 𝓡 (f .routine)) (h .promised M 𝓤 H 𝓜 𝓖 𝓡)
+  abbrev Passed : Lfs → Type 0
+  Passed κs = Args (f .ended .signature) κs
 
-pub one-result : (f : EntryPoint) → Shown f → OneResult f
-one-result f h M 𝓤 H A mem run κs a g r s ws vs =
-    let E : Res (f .ended .signature) κs → Lasts (f .ended) κs a → SProp 𝓤 = λ x us. f .promise 𝓤 H A mem run κs a .ensures g x (atExit (f .ended) κs a us) in
-    fact-use 𝓤 (h .says .Claim κs a r (atExit (f .ended) κs a ws)) (via 𝓤 (E r ws) (fst∗ 𝓤 (E r ws) (E s vs)) (h .says .claims M 𝓤 H A mem run κs a g r (atExit (f .ended) κs a ws))) (λ c.
-    via 𝓤 (fact 𝓤 (h .says .Claim κs a s (atExit (f .ended) κs a vs))) (via 𝓤 (E s vs) (snd∗ 𝓤 (E r ws) (E s vs)) (h .says .claims M 𝓤 H A mem run κs a g s (atExit (f .ended) κs a vs)))
-    (fact-mono 𝓤 _ _ (λ d. h .one κs a r s ws vs c d)))
+  abbrev Answer : Lfs → Type 0
+  Answer κs = Res (f .ended .signature) κs
+
+  -- the parameters at exit, with these last values
+  abbrev left : (κs : Lfs) (a : Passed κs) → Lasts (f .ended) κs a → AtExit (f .ended) κs
+  left κs a ws = atExit (f .ended) κs a ws
+
+  -- a promise in plain words: of what was passed, the answer, and what was passed as it is at exit
+  abbrev pub Plain : Type 1
+  Plain = (κs : Lfs) → Passed κs → Answer κs → AtExit (f .ended) κs → Type 0
+
+  -- clauses that require nothing and ensure just this
+  abbrev pub plainly : {M : Type 1} (𝓤 : URA M) (κs : Lfs) → (Answer κs → AtExit (f .ended) κs → Type 0) → ClausesAt 𝓤 (f .ended) κs
+  plainly 𝓤 κs Claim = record { ghost = Unit {0}; requires = λ g. emp 𝓤; ensures = λ g r e. fact 𝓤 (Claim r e) }
+
+  -- what a promise says, and that it has no `requires`
+  pub record Says : Type 3 where
+    pub Claim : Plain
+    pub free : (M : Type 1) (𝓤 : URA M) (H : Heap 𝓤) (A : Atoms 𝓤) (mem : Memory → SProp 𝓤) (run : Routine → Fun 𝓤) (κs : Lfs) (a : Passed κs)
+        → (g : f .promise 𝓤 H A mem run κs a .ghost) × ent 𝓤 (emp 𝓤) (f .promise 𝓤 H A mem run κs a .requires g)
+    pub claims : (M : Type 1) (𝓤 : URA M) (H : Heap 𝓤) (A : Atoms 𝓤) (mem : Memory → SProp 𝓤) (run : Routine → Fun 𝓤) (κs : Lfs) (a : Passed κs)
+        (g : f .promise 𝓤 H A mem run κs a .ghost) (r : Answer κs) (e : AtExit (f .ended) κs) → ent 𝓤 (f .promise 𝓤 H A mem run κs a .ensures g r e) (fact 𝓤 (Claim κs a r e))
+
+  -- a promise of one clause says that clause
+  abbrev pub said : (Claim : Plain)
+      → ((M : Type 1) (𝓤 : URA M) (H : Heap 𝓤) (A : Atoms 𝓤) (mem : Memory → SProp 𝓤) (run : Routine → Fun 𝓤) (κs : Lfs) (a : Passed κs) → f .promise 𝓤 H A mem run κs a ≡ plainly 𝓤 κs (Claim κs a))
+      → Says
+  said Claim is = record {
+    Claim = Claim;
+    free = λ M 𝓤 H A mem run κs a.
+        subst (λ (c : ClausesAt 𝓤 (f .ended) κs). (g : c .ghost) × ent 𝓤 (emp 𝓤) (c .requires g)) (sym (is M 𝓤 H A mem run κs a)) (tt, id⊢ 𝓤 (emp 𝓤));
+    claims = λ M 𝓤 H A mem run κs a.
+        subst (λ (c : ClausesAt 𝓤 (f .ended) κs). (g : c .ghost) (r : Answer κs) (e : AtExit (f .ended) κs) → ent 𝓤 (c .ensures g r e) (fact 𝓤 (Claim κs a r e)))
+        (sym (is M 𝓤 H A mem run κs a)) (λ g r e. id⊢ 𝓤 (fact 𝓤 (Claim κs a r e)));
+  }
+
+  -- what is shown of an entry point
+  pub record Shown : Type 3 where
+    pub promised : Promised f
+    pub says : Says
+    pub refusing : (κs : Lfs) (a : Passed κs) (r : Answer κs) (ws : Lasts (f .ended) κs a) → says .Claim κs a r (left κs a ws) → Refusing (f .refuses) (f .told κs r) (f .at-exit κs (left κs a ws) ≡ a)
+    pub one : (κs : Lfs) (a : Passed κs) (r s : Answer κs) (ws vs : Lasts (f .ended) κs a) → says .Claim κs a r (left κs a ws) → says .Claim κs a s (left κs a vs) → (r ≡ s) × (ws ≡ vs)
+
+  pub demanded : Shown → Demanded f
+  demanded h M 𝓤 H 𝓜 𝓖 𝓡 =
+      let free = h .says .free M 𝓤 H (𝓖 .A) (𝓜 .mem) (𝓡 .run) in
+      let claims = h .says .claims M 𝓤 H (𝓖 .A) (𝓜 .mem) (𝓡 .run) in
+      weaken-under 𝓤 H (𝓖 .A) (f .ended) (givenOf 𝓤 H 𝓜 𝓖) (f .promise 𝓤 H (𝓖 .A) (𝓜 .mem) (𝓡 .run)) (asked 𝓤 f)
+      (λ κs a g. free κs a .0) (λ κs a g. Unit {0}) (λ κs a g. factI 𝓤 (Unit {0}) (emp 𝓤) tt) (λ κs a g _. free κs a .1)
+      (λ κs a g _ r ws.
+      monoR 𝓤 (sem 𝓤 H (𝓖 .A) (lasts (f .ended) κs a ws))
+      (via 𝓤 (fact 𝓤 (h .says .Claim κs a r (left κs a ws))) (claims κs a _ r (left κs a ws)) (fact-mono 𝓤 _ _ (h .refusing κs a r ws))))
+      (𝓡 .run (f .routine)) (routine-mono 𝓤 H 𝓜 𝓡 (f .routine)) (h .promised M 𝓤 H 𝓜 𝓖 𝓡)
+
+  pub one-result : Shown → OneResult f
+  one-result h M 𝓤 H A mem run κs a g r s ws vs =
+      let E : Answer κs → Lasts (f .ended) κs a → SProp 𝓤 = λ x us. f .promise 𝓤 H A mem run κs a .ensures g x (left κs a us) in
+      let claims = h .says .claims M 𝓤 H A mem run κs a g in
+      fact-use 𝓤 (h .says .Claim κs a r (left κs a ws)) (via 𝓤 (E r ws) (fst∗ 𝓤 (E r ws) (E s vs)) (claims r (left κs a ws))) (λ c.
+      via 𝓤 (fact 𝓤 (h .says .Claim κs a s (left κs a vs))) (via 𝓤 (E s vs) (snd∗ 𝓤 (E r ws) (E s vs)) (claims s (left κs a vs))) (fact-mono 𝓤 _ _ (λ d. h .one κs a r s ws vs c d)))
 
 -- ---- of a whole table
+
 abbrev pub EachShown : List EntryPoint → Type 3
 EachShown [] = Unit {3}
 EachShown (f ∷ fs) = Shown f × EachShown fs

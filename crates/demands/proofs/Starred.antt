@@ -1,6 +1,6 @@
 -- The starred lines, by one computation.
 -- Assumes nothing.
-use mathlib.Core.Path.{refl, sym, ap, ap₂, _∙_}
+use mathlib.Core.Path.{refl, sym, ap₂, _∙_}
 use mathlib.Core.List.{List, _∷_}
 use Prim.Native.Nat.{ℕ}
 use Rattle.refusals.specs.Told.{gives}

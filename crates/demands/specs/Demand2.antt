@@ -8,7 +8,7 @@ use mathlib.Core.Path.{_≡_}
 use mathlib.Core.Bool.{true, false}
 use mathlib.Core.Logic.{_⊎_}
 use mathlib.Core.List.{List, [], _∷_, _++_}
-use Prim.Native.Nat.{ℕ, _+_, _*_, _^_, _≤_, _<_, min}
+use Prim.Native.Nat.{ℕ, _+_, _*_, _^_, _≤_, _<_}
 use lib.ListN.{length, getD, take, drop}
 use lib.Pow.{areBytes}
 use Rattle.refusals.specs.Told.{gives, refusal}
@@ -33,6 +33,10 @@ use Rattle.port_table.specs.declared.Port.{Port}
 use Rattle.port_table.specs.Table.{portBytes, tableBytes, placeOf, offsetOf, portOf}
 use Rattle.ports.specs.Lent.{portData}
 use Rattle.ports.specs.Arriving.{arrive, arriveStore, arriveAges}
+use Rattle.ports.specs.Answering.{answer, answerOut}
+use Rattle.ports.specs.Reading.{read, readOut, readAge}
+use Rattle.ports.specs.Filling.{fill, fillStore}
+use Rattle.ports.proofs.ThroughTheBus.{Sink}
 
 -- "Frames are those of IEC 61375-3-1, written and read"
 pub record Frames : Type 0 where
@@ -105,8 +109,24 @@ module _ (ps : List Port) (store ages : List ℕ) (word : ℕ) (frame : List ℕ
     pub own-data : arrive ps store ages word frame ≡ gives (0 ∷ []) → portData ps (address word) (arriveStore ps store ages word frame) ≡ slaveData (fCode word) frame
     pub own-age : arrive ps store ages word frame ≡ gives (0 ∷ []) → getD (arriveAges ps store ages word frame) (placeOf (address word) ps) 0 ≡ 0
 
+-- a source was filled with the data d and has answered; the other side has a sink for that word
+module _ (ps : List Port) (store : List ℕ) (word : ℕ) (d out : List ℕ) (n : ℕ) (qs : List Port) (store' ages' : List ℕ) where
+  -- the frame that came of it
+  abbrev pub answeredFrame : List ℕ
+  answeredFrame = take n (answerOut ps (fillStore ps store (address word) d) word out)
+
+  -- "a frame's data reaches its port" (document 01, versions to shut out): the other side takes the frame, and its application reads d, with age 0
+  pub record Reaches : Type 0 where
+    pub taken : arrive qs store' ages' word answeredFrame ≡ gives (0 ∷ [])
+    pub data-read : (back : List ℕ) (age : ℕ) → length d ≤ length back
+        → (read qs (arriveStore qs store' ages' word answeredFrame) (arriveAges qs store' ages' word answeredFrame) (address word) back ≡ gives (length d ∷ []))
+        × (readOut qs (arriveStore qs store' ages' word answeredFrame) (arriveAges qs store' ages' word answeredFrame) (address word) back ≡ d ++ drop (length d) back)
+        × (readAge qs (arriveStore qs store' ages' word answeredFrame) (arriveAges qs store' ages' word answeredFrame) (address word) back age ≡ 0)
+
 -- all of demand 2
 pub record Demand2 : Type 0 where
   pub frames : Frames
   pub lists : Lists
   pub ports : (ps : List Port) (store ages : List ℕ) (word : ℕ) (frame : List ℕ) → OwnPortOnly ps store ages word frame
+  pub through-the-bus : (ps : List Port) (store : List ℕ) (word : ℕ) (d out : List ℕ) (n : ℕ) → fill ps store (address word) d ≡ gives (0 ∷ []) → answer ps (fillStore ps store (address word) d) word out ≡ gives (n ∷ [])
+      → (qs : List Port) (store' ages' : List ℕ) → Sink qs store' ages' word → Reaches ps store word d out n qs store' ages'

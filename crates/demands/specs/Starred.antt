@@ -8,7 +8,7 @@ use Rattle.refusals.specs.Told.{Told, gives, refusal}
 use Rattle.checks.specs.Check.{checkOf}
 use Rattle.numbers.specs.Number.{numberAt}
 use Rattle.groups.specs.Search.{searchOf}
-use Rattle.rounds.specs.Lines.{Line, History, run}
+use Rattle.rounds.specs.Lines.{Line, run}
 use Rattle.rounds.specs.Demand.{Truthful, readOrder}
 use Rattle.demands.specs.Demand3.{among, requestsIn}
 
