@@ -25,6 +25,7 @@ use Rattle.rounds.proofs.Bytes.{trueBytes}
 use Rattle.rounds.proofs.Exists.{trueLine}
 use Rattle.lists.specs.Written.{All}
 use Rattle.periods.specs.Once.{one, times}
+use Rattle.demands.proofs.AsCPlays.{plays}
 use Rattle.demands.proofs.Members.{is-among, not-among, member-times, times-member}
 use Rattle.demands.specs.Demand3.{Different, Devices, among, have, requestsIn, EachRead, Ends, Demand3}
 
@@ -138,5 +139,6 @@ demand-3 = record {
   any-step = λ p h line n. rounds.counts-right p h line n;
   start-is = λ p s e. steps-apart s (startOf p) e;
   step-is = λ r answer s e. steps-apart s (stepOf r answer) e;
+  as-c-plays = λ p lent h bytes line made n. let s = plays lent p h bytes line made n in (s .sent, s .last, s .stands);
   answer-is = λ bytes answer e. lines-apart answer (answerOf bytes) e;
 }

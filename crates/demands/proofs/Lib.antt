@@ -7,5 +7,6 @@ pub mod Shown
 pub mod Rows
 pub mod Demand1
 pub mod Demand2
+pub mod AsCPlays
 pub mod Demand3
 pub mod Starred

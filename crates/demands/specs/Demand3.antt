@@ -7,9 +7,10 @@
 use mathlib.Core.Path.{_≡_}
 use mathlib.Core.Bool.{Bool, false, _||_}
 use mathlib.Core.List.{List, [], _∷_, List·Memᴰ}
-use Prim.Native.Nat.{ℕ, _+_, _*_, _/_, _≤_, _<_}
+use Prim.Native.Nat.{ℕ, zero, suc, _+_, _*_, _/_, _≤_, _<_}
 use lib.Dec.{eqb}
 use lib.ListN.{length}
+use Rattle.refusals.specs.Told.{Told, gives, refused}
 use Rattle.frames.specs.declared.LineAnswer.{LineAnswer}
 use Rattle.frames.specs.Answers.{toldLine}
 use Rattle.frames.specs.Line.{answerOf, lineAnswer}
@@ -17,12 +18,13 @@ use Rattle.groups.specs.Sets.{Rising}
 use Rattle.rounds.specs.declared.Counts.{Counts}
 use Rattle.rounds.specs.declared.Round.{Round}
 use Rattle.rounds.specs.declared.Step.{Step}
-use Rattle.rounds.specs.declared.Step.the-variants.{End}
+use Rattle.rounds.specs.declared.Step.the-variants.{Next, End, Refused}
 use Rattle.rounds.specs.Rounds.{startOf, stepOf}
 use Rattle.rounds.specs.Told.{told}
 use Rattle.rounds.specs.Lines.{Line, History, run, isRequest, counted, Right}
 use Rattle.rounds.specs.Demand.{Truthful, readOrder}
 use Rattle.rounds.specs.Bytes.{ByteLine, MadeFrom, TruthfulBytes}
+use Rattle.mvb.specs.Rounds.{stored, toldStep, startAnswer, startRun, roundAnswer, roundRun}
 use Rattle.lists.specs.Written.{All}
 use Rattle.periods.specs.Once.{one, times}
 
@@ -72,6 +74,36 @@ pub record Ends (h : History) : Type 0 where
   pub most : requestsIn h ≤ 8191
   pub requests : counts .requests ≡ requestsIn h
 
+-- ---- a round as C plays it: its six numbers are lent to every call, and a call takes the bytes that came
+
+-- the words sent, the newest first; the run with the six numbers; what the last call told
+pub record Played : Type 0 where
+  pub sent : List ℕ
+  pub numbers : List ℕ
+  pub last : Told
+
+-- a word that was told is sent, and the next call takes the bytes that came for it; an end tells no word, and nothing is sent any more
+abbrev pub playOn : ByteLine → List ℕ → List ℕ → Told → Played
+playOn bytes sent numbers (gives (word ∷ [])) = record { sent = word ∷ sent; numbers = roundRun numbers (bytes (word ∷ sent)); last = roundAnswer numbers (bytes (word ∷ sent)) }
+playOn bytes sent numbers (gives []) = record { sent = sent; numbers = numbers; last = gives [] }
+playOn bytes sent numbers (gives (v ∷ w ∷ l)) = record { sent = sent; numbers = numbers; last = gives (v ∷ w ∷ l) }
+playOn bytes sent numbers (refused n v) = record { sent = sent; numbers = numbers; last = refused n v }
+
+-- so many words more
+abbrev pub playFor : ByteLine → ℕ → Played → Played
+playFor bytes zero p = p
+playFor bytes (suc n) p = playFor bytes n (playOn bytes (p .sent) (p .numbers) (p .last))
+
+-- from a start, with these parameter bits and this run lent
+abbrev pub played : ByteLine → ℕ → List ℕ → ℕ → Played
+played bytes params lent n = playFor bytes n (record { sent = []; numbers = startRun params lent; last = startAnswer params (length lent) })
+
+-- the round that a step hands back stands in the run, and numbers beyond six are as they were lent
+abbrev pub Stands : List ℕ → Step → List ℕ → Type 0
+Stands lent (Next r word) numbers = numbers ≡ stored r lent
+Stands lent (End r k) numbers = numbers ≡ stored r lent
+Stands lent (Refused n) numbers = Unit {0}
+
 -- a round is over after 12,287 words: 8,191 requests and 4,096 reads. Parameter bits are below 4,096, or the start refuses them
 pub record Demand3 : Type 0 where
   -- "Let k devices .. Then .."
@@ -90,3 +122,8 @@ pub record Demand3 : Type 0 where
   pub start-is : (params : ℕ) (s : Step) → told s ≡ told (startOf params) → s ≡ startOf params
   pub step-is : (r : Round) (answer : LineAnswer) (s : Step) → told s ≡ told (stepOf r answer) → s ≡ stepOf r answer
   pub answer-is : (bytes : List ℕ) (answer : LineAnswer) → toldLine answer ≡ lineAnswer bytes → answer ≡ answerOf bytes
+  -- and so does C: the same words, the same answers, and the round in its six numbers
+  pub as-c-plays : (params : ℕ) (lent : List ℕ) → 6 ≤ length lent → (bytes : ByteLine) (line : Line) → MadeFrom bytes line → (n : ℕ)
+      → (played bytes params lent n .sent ≡ run line params n .sent)
+      × (played bytes params lent n .last ≡ toldStep (run line params n .last))
+      × Stands lent (run line params n .last) (played bytes params lent n .numbers)
