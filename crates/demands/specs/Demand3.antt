@@ -108,7 +108,8 @@ Stands lent (Refused n) numbers = Unit {0}
 pub record Demand3 : Type 0 where
   -- "Let k devices .. Then .."
   pub truthful-line : (k : ℕ) (ds : Devices k) (params : ℕ) → params ≤ 4095 → (line : Line) → Truthful (have ds) params line → (n : ℕ) → 12287 ≤ n → EachRead k ds (run line params n)
-  -- the same of the bytes that came: no byte for none, for one the Master Frame of F_code 12 and its address, for several anything else
+  -- the same of the bytes that came: no byte for none, for one the Master Frame of F_code 12 and its address, for several bytes that are
+  -- no right frame
   pub truthful-bytes : (k : ℕ) (ds : Devices k) (params : ℕ) → params ≤ 4095 → (bytes : ByteLine) (line : Line) → MadeFrom bytes line → TruthfulBytes (have ds) params bytes line
       → (n : ℕ) → 12287 ≤ n → EachRead k ds (run line params n)
   -- there are such lines and such bytes for each set
