@@ -99,6 +99,7 @@ demand-2 = record {
     other-bytes = own.other-bytes ps store ages word frame;
     other-ages = own.other-ages ps store ages word frame;
     other-ports = own.other-ports ps store ages word frame;
+    as-long = (own.store-length ps store ages word frame, own.ages-length ps store ages word frame);
     own-data = own.own-data ps store ages word frame;
     own-age = own.own-age ps store ages word frame;
   };

@@ -30,11 +30,19 @@ Refusing numbers t Unchanged = (n : ℕ) (values : List ℕ) → t ≡ refused n
 abbrev pub asked : {M : Type 1} (𝓤 : URA M) (f : EntryPoint) → Clauses 𝓤 (f .ended)
 asked 𝓤 f κs a = record { ghost = Unit {0}; requires = λ g. emp 𝓤; ensures = λ g r e. fact 𝓤 (Refusing (f .refuses) (f .told κs r) (f .at-exit κs e ≡ a)) }
 
--- the function, as it runs, meets that contract
-abbrev pub Demanded : EntryPoint → Type 2
-Demanded f =
+-- the function, as it runs, meets these clauses: in every model of the logic, as its own theorem says it
+abbrev pub Does : (f : EntryPoint) → ((M : Type 1) (𝓤 : URA M) (H : Heap 𝓤) (𝓜 : Model 𝓤 H) (𝓖 : GhostRules 𝓤 H) (𝓡 : Running 𝓤 H 𝓜) → Clauses 𝓤 (f .ended)) → Type 2
+Does f clauses =
     (M : Type 1) (𝓤 : URA M) (H : Heap 𝓤) (𝓜 : Model 𝓤 H) (𝓖 : GhostRules 𝓤 H) (𝓡 : Running 𝓤 H 𝓜) →
-    Meets 𝓤 H (𝓖 .A) (f .ended .signature) (𝓡 .run (f .routine)) (closing 𝓤 H (𝓖 .A) (f .ended) (asked 𝓤 f))
+    Meets 𝓤 H (𝓖 .A) (f .ended .signature) (𝓡 .run (f .routine)) (closing 𝓤 H (𝓖 .A) (f .ended) (clauses M 𝓤 H 𝓜 𝓖 𝓡))
+
+-- its own promise, from which "every result and every lent byte afterwards follows"
+abbrev pub Promised : EntryPoint → Type 2
+Promised f = Does f (λ M 𝓤 H 𝓜 𝓖 𝓡. f .promise 𝓤 H (𝓖 .A) (𝓜 .mem) (𝓡 .run))
+
+-- what demand 1 asks
+abbrev pub Demanded : EntryPoint → Type 2
+Demanded f = Does f (λ M 𝓤 H 𝓜 𝓖 𝓡. asked 𝓤 f)
 
 -- "and ends": from every memory that holds what was passed, whatever that is and whatever else the memory holds, the machine's run of the
 -- function comes to a return, after some number of steps, with some value and some memory
@@ -44,12 +52,6 @@ Returns f =
     (x : Bound 𝓤 H (𝓖 .A) (f .ended .signature)) (before : Memory) (else : SProp 𝓤) →
     Satisfies 𝓤 H 𝓜 before (sep 𝓤 (onEntry 𝓤 H (𝓖 .A) (f .ended .signature) (x .0) (x .1) (x .3) (x .4)) else) →
     ∥ ((steps : ℕ) × (value : Val) × (after : Memory) × (f .routine .step steps (passed 𝓤 H (𝓖 .A) (f .ended .signature) x) before ≡ done (value, after))) ∥₁
-
--- and its own promise, from which "every result and every lent byte afterwards follows"
-abbrev pub Promised : EntryPoint → Type 2
-Promised f =
-    (M : Type 1) (𝓤 : URA M) (H : Heap 𝓤) (𝓜 : Model 𝓤 H) (𝓖 : GhostRules 𝓤 H) (𝓡 : Running 𝓤 H 𝓜) →
-    Meets 𝓤 H (𝓖 .A) (f .ended .signature) (𝓡 .run (f .routine)) (closing 𝓤 H (𝓖 .A) (f .ended) (f .promise 𝓤 H (𝓖 .A) (𝓜 .mem) (𝓡 .run)))
 
 -- each row of a table
 abbrev pub Each : (EntryPoint → Type 2) → List EntryPoint → Type 2

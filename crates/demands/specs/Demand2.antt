@@ -105,11 +105,14 @@ module _ (ps : List Port) (store ages : List ℕ) (word : ℕ) (frame : List ℕ
     -- so every other port has the data and the age that it had
     pub other-ports : (b : ℕ) → (b ≡ address word → ⊥) → placeOf b ps < length ps → tableBytes ps ≤ length store
         → (portData ps b (arriveStore ps store ages word frame) ≡ portData ps b store) × (getD (arriveAges ps store ages word frame) (placeOf b ps) 0 ≡ getD ages (placeOf b ps) 0)
+    -- store and ages are as long as they were
+    pub as-long : (length (arriveStore ps store ages word frame) ≡ length store) × (length (arriveAges ps store ages word frame) ≡ length ages)
     -- its own port, where it is accepted, has its data, with age 0
     pub own-data : arrive ps store ages word frame ≡ gives (0 ∷ []) → portData ps (address word) (arriveStore ps store ages word frame) ≡ slaveData (fCode word) frame
     pub own-age : arrive ps store ages word frame ≡ gives (0 ∷ []) → getD (arriveAges ps store ages word frame) (placeOf (address word) ps) 0 ≡ 0
 
--- a source was filled with the data d and has answered; the other side has a sink for that word
+-- a source was filled with the data d and has answered; the other side has a sink for that word (`Sink`: its table is good and has a sink of
+-- that address and F_code, and store and ages are long enough)
 module _ (ps : List Port) (store : List ℕ) (word : ℕ) (d out : List ℕ) (n : ℕ) (qs : List Port) (store' ages' : List ℕ) where
   -- the frame that came of it
   abbrev pub answeredFrame : List ℕ
