@@ -28,6 +28,7 @@ use Rattle.periods.specs.Period.{periodBy}
 use Rattle.periods.proofs.OnceLaws as once
 use Rattle.ports.proofs.OwnPortOnly as own
 use Rattle.ports.proofs.ThroughTheBus as bus
+use Rattle.demands.proofs.SomeFile.{some-file}
 use Rattle.demands.specs.Demand2.{Frames, header, IsFile, Lists, Demand2}
 
 -- ---- frames
@@ -83,6 +84,7 @@ lists : Lists
 lists = record {
   accepted-if = λ s l f. ap toldRead (is-accepted s l f);
   only-if = only-if;
+  some-file = some-file;
   too-long = order.too-long-first;
   first-fault = order.first-fault;
   each-once = λ s l f n h w p a. once.each-once s l [] (f .bytes) (is-accepted s l f) n h w p a;

@@ -6,6 +6,7 @@ pub mod RefusedPorts
 pub mod Shown
 pub mod Rows
 pub mod Demand1
+pub mod SomeFile
 pub mod Demand2
 pub mod AsCPlays
 pub mod Demand3

@@ -19,6 +19,7 @@ use Rattle.lists.specs.Order.{Want, one, ms, gap, reserve, count, word, split, 
 use Rattle.lists.specs.Answers.{toldRead}
 use Rattle.periods.specs.Period.{askedBy, periodBy}
 use Rattle.list_text.specs.Text.{textOf, textBy}
+use Rattle.mvb.specs.Lists.{readBy, checkAnswer, checkNumber}
 use Rattle.lists.proofs.OrderLaws.{first-fault, too-long-first}
 use Rattle.demands.specs.EntryPoints.{listRefusals}
 use Rattle.demands.specs.Demand1.{Refusing}
@@ -86,6 +87,19 @@ list-check s = go (accepted s) refl
   where
     go : (x : Read PeriodicList) → accepted s ≡ x → Refusing listRefusals (toldRead x) (Unit {0})
     go (denied n) e = refuses n (denied-listed s n e) tt
+    go (took l rest) e = answers _
+
+-- the same as C calls it: the header's numbers go to lent numbers
+pub mvb-list-check : (s : List ℕ) (p g v : ℕ)
+    → Refusing listRefusals (checkAnswer s)
+    ((checkNumber (λ l. l .head .ms) s p ≡ p) × (checkNumber (λ l. l .head .gap) s g ≡ g) × (checkNumber (λ l. l .head .reserve) s v ≡ v))
+unfolding checkAnswer checkNumber
+mvb-list-check s p g v = go (accepted s) refl
+  where
+    go : (x : Read PeriodicList) → accepted s ≡ x
+        → Refusing listRefusals (readBy x refusal (λ l. gives (length (wordsOf (l .cycles)) ∷ [])))
+        ((readBy x (λ n. p) (λ l. l .head .ms) ≡ p) × (readBy x (λ n. g) (λ l. l .head .gap) ≡ g) × (readBy x (λ n. v) (λ l. l .head .reserve) ≡ v))
+    go (denied n) e = refuses n (denied-listed s n e) (refl, refl, refl)
     go (took l rest) e = answers _
 
 pub basic-period : (s : List ℕ) (j : ℕ) (out : List ℕ)

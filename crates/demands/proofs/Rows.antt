@@ -92,6 +92,14 @@ check-of = record {
   one = λ κs a r s ws vs c d. (c ∙ sym d, refl);
 }
 
+pub check-of-word : Shown table.check-of-word
+check-of-word = record {
+  promised = λ M 𝓤 H 𝓜 𝓖 𝓡. checks.check_of_word.Met.met 𝓤 H 𝓜 𝓖 𝓡;
+  says = said table.check-of-word _ (λ M 𝓤 H A mem run κs a. refl);
+  refusing = λ κs a r ws c. answers _;
+  one = λ κs a r s ws vs c d. (c ∙ sym d, refl);
+}
+
 pub row-of : Shown table.row-of
 row-of = record {
   promised = λ M 𝓤 H 𝓜 𝓖 𝓡. frames.row_of.Met.met 𝓤 H 𝓜 𝓖 𝓡;
@@ -300,6 +308,38 @@ list-text = record {
   one = λ κs a r s ws vs c d. (texts-apart r s (c .0 ∙ sym (d .0)), ap (λ (x : List ℕ). (tt, (x, tt))) (c .1 ∙ sym (d .1)));
 }
 
+pub mvb-list-check : Shown table.mvb-list-check
+mvb-list-check = record {
+  promised = λ M 𝓤 H 𝓜 𝓖 𝓡. mvb.list_calls.mvb_list_check.Met.met 𝓤 H 𝓜 𝓖 𝓡;
+  says = record {
+    Claim = _;
+    free = λ M 𝓤 H A mem run κs a. (tt, id⊢ 𝓤 (emp 𝓤));
+    claims = λ M 𝓤 H A mem run κs a g r e. two 𝓤 (fact 𝓤 _) _ _ _ (id⊢ 𝓤 (fact 𝓤 _)) (two 𝓤 (fact 𝓤 _) _ _ _ (id⊢ 𝓤 (fact 𝓤 _)) (two 𝓤 (fact 𝓤 _) (fact 𝓤 _) _ _ (id⊢ 𝓤 (fact 𝓤 _)) (id⊢ 𝓤 (fact 𝓤 _))));
+  };
+  refusing = λ κs a r ws c.
+      told-so (c .0)
+      (λ e i. (a .0, (at-last (a .1 .0) ((c .1 .0 ∙ e .0) i), (at-last (a .1 .1 .0) ((c .1 .1 .0 ∙ e .1) i), (at-last (a .1 .1 .1 .0) ((c .1 .1 .1 ∙ e .2) i), tt)))))
+      (file.mvb-list-check (now (a .0)) (now (a .1 .0)) (now (a .1 .1 .0)) (now (a .1 .1 .1 .0)));
+  one = λ κs a r s ws vs c d.
+      (codes-apart r s (c .0 ∙ sym (d .0)), λ i. (tt, ((c .1 .0 ∙ sym (d .1 .0)) i, ((c .1 .1 .0 ∙ sym (d .1 .1 .0)) i, ((c .1 .1 .1 ∙ sym (d .1 .1 .1)) i, tt)))));
+}
+
+pub mvb-basic-period : Shown table.mvb-basic-period
+mvb-basic-period = record {
+  promised = λ M 𝓤 H 𝓜 𝓖 𝓡. mvb.list_calls.mvb_basic_period.Met.met 𝓤 H 𝓜 𝓖 𝓡;
+  says = said table.mvb-basic-period _ (λ M 𝓤 H A mem run κs a. refl);
+  refusing = λ κs a r ws c. told-so (c .0) (λ e. ap (λ (x : List ℕ). (a .0, (a .1 .0, (at-last (a .1 .1 .0) x, tt)))) (c .1 ∙ e)) (file.basic-period (now (a .0)) (a .1 .0) (now (a .1 .1 .0)));
+  one = λ κs a r s ws vs c d. (codes-apart r s (c .0 ∙ sym (d .0)), ap (λ (x : List ℕ). (tt, (tt, (x, tt)))) (c .1 ∙ sym (d .1)));
+}
+
+pub mvb-list-text : Shown table.mvb-list-text
+mvb-list-text = record {
+  promised = λ M 𝓤 H 𝓜 𝓖 𝓡. mvb.list_calls.mvb_list_text.Met.met 𝓤 H 𝓜 𝓖 𝓡;
+  says = said table.mvb-list-text _ (λ M 𝓤 H A mem run κs a. refl);
+  refusing = λ κs a r ws c. told-so (c .0) (λ e. ap (λ (x : List ℕ). (a .0, (at-last (a .1 .0) x, tt))) (c .1 ∙ e)) (file.list-text (now (a .0)) (now (a .1 .0)));
+  one = λ κs a r s ws vs c d. (codes-apart r s (c .0 ∙ sym (d .0)), ap (λ (x : List ℕ). (tt, (x, tt))) (c .1 ∙ sym (d .1)));
+}
+
 pub look : Shown table.look
 look = record {
   promised = λ M 𝓤 H 𝓜 𝓖 𝓡. port-table.look.Met.met 𝓤 H 𝓜 𝓖 𝓡;
@@ -431,4 +471,4 @@ mvb-search = record {
 -- all of them, in the order of the table
 pub rows : EachShown table.entryPoints
 rows =
-    (refusal-number, (refusal-code, (check-of, (row-of, (master-read, (master-write, (slave-read, (slave-write, (line-answer, (mvb-check-of, (mvb-master-read, (mvb-master-write, (mvb-slave-read, (mvb-slave-write, (telegram-bits, (guard, (mvb-telegram-bits, (mvb-guard, (number-at, (reader-new, (reader-next, (read-number, (read-numbers, (cycles-of, (periods-of, (list-check, (cycle-at, (basic-period, (list-text, (look, (mvb-arrive, (mvb-answer, (mvb-read, (mvb-fill, (mvb-tick, (bound, (is-group, (in-group, (round-start, (round-answer, (search-set, (mvb-round-start, (mvb-round-answer, (mvb-search, tt))))))))))))))))))))))))))))))))))))))))))))
+    (refusal-number, (refusal-code, (check-of, (check-of-word, (row-of, (master-read, (master-write, (slave-read, (slave-write, (line-answer, (mvb-check-of, (mvb-master-read, (mvb-master-write, (mvb-slave-read, (mvb-slave-write, (telegram-bits, (guard, (mvb-telegram-bits, (mvb-guard, (number-at, (reader-new, (reader-next, (read-number, (read-numbers, (cycles-of, (periods-of, (list-check, (cycle-at, (basic-period, (list-text, (mvb-list-check, (mvb-basic-period, (mvb-list-text, (look, (mvb-arrive, (mvb-answer, (mvb-read, (mvb-fill, (mvb-tick, (bound, (is-group, (in-group, (round-start, (round-answer, (search-set, (mvb-round-start, (mvb-round-answer, (mvb-search, tt))))))))))))))))))))))))))))))))))))))))))))))))

@@ -79,6 +79,8 @@ pub record Lists : Type 0 where
   pub accepted-if : (s : List ℕ) (l : PeriodicList) → IsFile s l → toldRead (accepted s) ≡ gives (header l)
   -- "exactly" then, and these bytes are the file of no other list
   pub only-if : (s v : List ℕ) → Bytes s → toldRead (accepted s) ≡ gives v → (l : PeriodicList) × IsFile s l × (v ≡ header l) × ((m : PeriodicList) → IsFile s m → m ≡ l)
+  -- there is such a list
+  pub some-file : (s : List ℕ) × (l : PeriodicList) × IsFile s l
   -- and a list that is not is refused with the first number that fails its check
   pub too-long : (s : List ℕ) → 16384 < length s → accepted s ≡ denied 1
   pub first-fault : (s : List ℕ) (m : ℕ) → length s ≤ 16384 → (accepted s ≡ denied m → Refuses (want one) s m) × (Refuses (want one) s m → accepted s ≡ denied m)

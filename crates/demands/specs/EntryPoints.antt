@@ -80,6 +80,10 @@ refusal-code = record { ended = refusals.Refusal.code.ended; routine = refusals.
 abbrev pub check-of : EntryPoint
 check-of = record { ended = checks.check_of.ended; routine = checks.check_of.Symbol.routine; promise = checks.check_of.clauses; refuses = []; told = λ κs r. value r; at-exit = λ κs e. e }
 
+-- the check sequence of any word
+abbrev pub check-of-word : EntryPoint
+check-of-word = record { ended = checks.check_of_word.ended; routine = checks.check_of_word.Symbol.routine; promise = checks.check_of_word.clauses; refuses = []; told = λ κs r. value r; at-exit = λ κs e. e }
+
 -- the row of any F_code
 abbrev pub row-of : EntryPoint
 row-of = record { ended = frames.row_of.ended; routine = frames.row_of.Symbol.routine; promise = frames.row_of.clauses; refuses = []; told = λ κs r. gives r; at-exit = λ κs e. e }
@@ -188,6 +192,18 @@ basic-period = record { ended = periods.basic_period.ended; routine = periods.ba
 abbrev pub list-text : EntryPoint
 list-text = record { ended = texts.list_text.ended; routine = texts.list_text.Symbol.routine; promise = texts.list_text.clauses; refuses = 4 ∷ []; told = λ κs r. toldText r; at-exit = λ κs e. e }
 
+-- whether a list is accepted, as C calls it
+abbrev pub mvb-list-check : EntryPoint
+mvb-list-check = record { ended = mvb.list_calls.mvb_list_check.ended; routine = mvb.list_calls.mvb_list_check.Symbol.routine; promise = mvb.list_calls.mvb_list_check.clauses; refuses = listRefusals; told = λ κs r. toldCode r; at-exit = λ κs e. e }
+
+-- a Basic Period as C calls it
+abbrev pub mvb-basic-period : EntryPoint
+mvb-basic-period = record { ended = mvb.list_calls.mvb_basic_period.ended; routine = mvb.list_calls.mvb_basic_period.Symbol.routine; promise = mvb.list_calls.mvb_basic_period.clauses; refuses = 12 ∷ 4 ∷ listRefusals; told = λ κs r. toldCode r; at-exit = λ κs e. e }
+
+-- the text as C calls it
+abbrev pub mvb-list-text : EntryPoint
+mvb-list-text = record { ended = mvb.list_calls.mvb_list_text.ended; routine = mvb.list_calls.mvb_list_text.Symbol.routine; promise = mvb.list_calls.mvb_list_text.clauses; refuses = 4 ∷ []; told = λ κs r. toldCode r; at-exit = λ κs e. e }
+
 -- ---- ports and ages; C calls these themselves
 
 -- goodness test and lookup, over any table
@@ -255,4 +271,4 @@ mvb-search = record { ended = mvb.round_calls.mvb_search.ended; routine = mvb.ro
 -- all of them
 abbrev pub entryPoints : List EntryPoint
 entryPoints =
-    refusal-number ∷ refusal-code ∷ check-of ∷ row-of ∷ master-read ∷ master-write ∷ slave-read ∷ slave-write ∷ line-answer ∷ mvb-check-of ∷ mvb-master-read ∷ mvb-master-write ∷ mvb-slave-read ∷ mvb-slave-write ∷ telegram-bits ∷ guard ∷ mvb-telegram-bits ∷ mvb-guard ∷ number-at ∷ reader-new ∷ reader-next ∷ read-number ∷ read-numbers ∷ cycles-of ∷ periods-of ∷ list-check ∷ cycle-at ∷ basic-period ∷ list-text ∷ look ∷ mvb-arrive ∷ mvb-answer ∷ mvb-read ∷ mvb-fill ∷ mvb-tick ∷ bound ∷ is-group ∷ in-group ∷ round-start ∷ round-answer ∷ search-set ∷ mvb-round-start ∷ mvb-round-answer ∷ mvb-search ∷ []
+    refusal-number ∷ refusal-code ∷ check-of ∷ check-of-word ∷ row-of ∷ master-read ∷ master-write ∷ slave-read ∷ slave-write ∷ line-answer ∷ mvb-check-of ∷ mvb-master-read ∷ mvb-master-write ∷ mvb-slave-read ∷ mvb-slave-write ∷ telegram-bits ∷ guard ∷ mvb-telegram-bits ∷ mvb-guard ∷ number-at ∷ reader-new ∷ reader-next ∷ read-number ∷ read-numbers ∷ cycles-of ∷ periods-of ∷ list-check ∷ cycle-at ∷ basic-period ∷ list-text ∷ mvb-list-check ∷ mvb-basic-period ∷ mvb-list-text ∷ look ∷ mvb-arrive ∷ mvb-answer ∷ mvb-read ∷ mvb-fill ∷ mvb-tick ∷ bound ∷ is-group ∷ in-group ∷ round-start ∷ round-answer ∷ search-set ∷ mvb-round-start ∷ mvb-round-answer ∷ mvb-search ∷ []
