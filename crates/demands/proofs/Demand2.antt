@@ -22,8 +22,8 @@ use Rattle.lists.specs.Reading.{Read, denied, took}
 use Rattle.lists.specs.Sends.{sends}
 use Rattle.lists.specs.Accepts.{accepted}
 use Rattle.lists.specs.Answers.{toldRead}
-use Rattle.lists.proofs.Acceptance.{accepted-obeys, accepted-exactly, one-list}
-use Rattle.lists.proofs.OrderLaws as order
+use Rattle.list_laws.proofs.Acceptance.{accepted-obeys, accepted-exactly, one-list}
+use Rattle.list_laws.proofs.OrderLaws as order
 use Rattle.periods.specs.Period.{periodBy}
 use Rattle.periods.proofs.OnceLaws as once
 use Rattle.ports.proofs.OwnPortOnly as own

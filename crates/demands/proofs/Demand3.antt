@@ -23,7 +23,7 @@ use Rattle.rounds.proofs.Apart.{steps-apart}
 use Rattle.rounds.proofs.Demand as rounds
 use Rattle.rounds.proofs.Bytes.{trueBytes}
 use Rattle.rounds.proofs.Exists.{trueLine}
-use Rattle.lists.specs.Written.{All}
+use Rattle.list_laws.specs.Written.{All}
 use Rattle.periods.specs.Once.{one, times}
 use Rattle.demands.proofs.AsCPlays.{plays}
 use Rattle.demands.proofs.Members.{is-among, not-among, member-times, times-member}

@@ -9,18 +9,18 @@ use native.Mathlib.Omega.{arith}
 use lib.Dec.{eqb, ltb, leb}
 use lib.ListN.{length, drop}
 use Rattle.refusals.specs.Told.{gives, refusal}
-use Rattle.numbers.specs.Number.{Taken, bad, taken, number as numberFirst, from, numberAt}
-use Rattle.lists.specs.Values.{PeriodicList, periodsOf, wordsOf, sum}
+use Rattle.numbers.specs.Number.{Taken, bad, taken, number as numberFirst, from, numberAt, sum}
+use Rattle.lists.specs.Values.{PeriodicList, periodsOf, wordsOf}
 use Rattle.lists.specs.Rules.{Check, right, wrong, unless, also, listable, clashes, splitRule}
 use Rattle.lists.specs.Reading.{Read, denied, took}
 use Rattle.lists.specs.Sends.{sends, overfull, crowded}
 use Rattle.lists.specs.Accepts.{none, ending, accepted}
-use Rattle.lists.specs.Order.{Want, one, ms, gap, reserve, count, word, split, Due, want, over, range, check, next, Refuses, unreadable, fails, later, at-end}
+use Rattle.list_laws.specs.Order.{Want, one, ms, gap, reserve, count, word, split, Due, want, over, range, check, next, Refuses, unreadable, fails, later, at-end}
 use Rattle.lists.specs.Answers.{toldRead}
 use Rattle.periods.specs.Period.{askedBy, periodBy}
 use Rattle.list_text.specs.Text.{textOf, textBy}
 use Rattle.mvb.specs.Lists.{readBy, checkAnswer, checkNumber}
-use Rattle.lists.proofs.OrderLaws.{first-fault, too-long-first}
+use Rattle.list_laws.proofs.OrderLaws.{first-fault, too-long-first}
 use Rattle.demands.specs.EntryPoints.{listRefusals}
 use Rattle.demands.specs.Demand1.{Refusing}
 use Rattle.demands.proofs.Chains.{Listed, answers, refuses, listed, unless as if-not}

@@ -31,6 +31,7 @@ use Rattle.search.proofs as search-of
 use Rattle.search.proofs.Apart.{answers-apart}
 use Rattle.numbers.specs.declared.Reader.{Reader}
 use Rattle.numbers.specs.declared.Run.{Run}
+use Rattle.numbers.specs.declared.Summed.{Summed}
 use Rattle.numbers.proofs as numbers
 use Rattle.numbers.proofs.Answers.{numbers-apart}
 use Rattle.lists.proofs as lists
@@ -61,9 +62,12 @@ check-small : (block : List ℕ) → checkOf block < 65536
 unfolding checkOf checkBits
 check-small block = let h = number-byte-lt (map not (plain (bitsOf block))) (length-map (plain (bitsOf block)) not ∙ length-plain (bitsOf block)) in omega (arith, h)
 
--- a reader, and the numbers read, by their fields
+-- a reader, and the numbers read or added up, by their fields
 reader-is : {r s : Reader} → r .src ≡ s .src → r .at ≡ s .at → r ≡ s
 reader-is e f i = record { src = e i; at = f i }
+
+sum-is : {r s : Summed} → r .total ≡ s .total → r .next ≡ s .next → r ≡ s
+sum-is e f i = record { total = e i; next = f i }
 
 run-is : {r s : Run} → r .count ≡ s .count → r .next ≡ s .next → r ≡ s
 run-is e f i = record { count = e i; next = f i }
@@ -260,6 +264,14 @@ read-numbers = record {
   one = λ κs a r s ws vs c d. (run-is (c .0 ∙ sym (d .0)) (c .1 ∙ sym (d .1)), ap (λ (x : List ℕ). (tt, (tt, (x, tt)))) (c .2 ∙ sym (d .2)));
 }
 
+pub sum-numbers : Shown table.sum-numbers
+sum-numbers = record {
+  promised = λ M 𝓤 H 𝓜 𝓖 𝓡. numbers.sum_numbers.Met.met 𝓤 H 𝓜 𝓖 𝓡;
+  says = said table.sum-numbers _ (λ M 𝓤 H A mem run κs a. refl);
+  refusing = λ κs a r ws c. answers _;
+  one = λ κs a r s ws vs c d. (sum-is (c .0 ∙ sym (d .0)) (c .1 ∙ sym (d .1)), refl);
+}
+
 pub cycles-of : Shown table.cycles-of
 cycles-of = record {
   promised = λ M 𝓤 H 𝓜 𝓖 𝓡. lists.cycles_of.Met.met 𝓤 H 𝓜 𝓖 𝓡;
@@ -282,14 +294,6 @@ list-check = record {
   says = said table.list-check _ (λ M 𝓤 H A mem run κs a. refl);
   refusing = λ κs a r ws c. told-so c (λ u. refl) (file.list-check (now (a .0)));
   one = λ κs a r s ws vs c d. (checks-apart r s (c ∙ sym d), refl);
-}
-
-pub cycle-at : Shown table.cycle-at
-cycle-at = record {
-  promised = λ M 𝓤 H 𝓜 𝓖 𝓡. lists.cycle_at.Met.met 𝓤 H 𝓜 𝓖 𝓡;
-  says = said table.cycle-at _ (λ M 𝓤 H A mem run κs a. refl);
-  refusing = λ κs a r ws c. answers _;
-  one = λ κs a r s ws vs c d. (c .0 ∙ sym (d .0), ap₂ (λ (x y : List ℕ). (tt, (tt, (tt, (x, (y, tt)))))) (c .1 ∙ sym (d .1)) (c .2 ∙ sym (d .2)));
 }
 
 pub basic-period : Shown table.basic-period
@@ -471,4 +475,4 @@ mvb-search = record {
 -- all of them, in the order of the table
 pub rows : EachShown table.entryPoints
 rows =
-    (refusal-number, (refusal-code, (check-of, (check-of-word, (row-of, (master-read, (master-write, (slave-read, (slave-write, (line-answer, (mvb-check-of, (mvb-master-read, (mvb-master-write, (mvb-slave-read, (mvb-slave-write, (telegram-bits, (guard, (mvb-telegram-bits, (mvb-guard, (number-at, (reader-new, (reader-next, (read-number, (read-numbers, (cycles-of, (periods-of, (list-check, (cycle-at, (basic-period, (list-text, (mvb-list-check, (mvb-basic-period, (mvb-list-text, (look, (mvb-arrive, (mvb-answer, (mvb-read, (mvb-fill, (mvb-tick, (bound, (is-group, (in-group, (round-start, (round-answer, (search-set, (mvb-round-start, (mvb-round-answer, (mvb-search, tt))))))))))))))))))))))))))))))))))))))))))))))))
+    (refusal-number, (refusal-code, (check-of, (check-of-word, (row-of, (master-read, (master-write, (slave-read, (slave-write, (line-answer, (mvb-check-of, (mvb-master-read, (mvb-master-write, (mvb-slave-read, (mvb-slave-write, (telegram-bits, (guard, (mvb-telegram-bits, (mvb-guard, (number-at, (reader-new, (reader-next, (read-number, (read-numbers, (sum-numbers, (cycles-of, (periods-of, (list-check, (basic-period, (list-text, (mvb-list-check, (mvb-basic-period, (mvb-list-text, (look, (mvb-arrive, (mvb-answer, (mvb-read, (mvb-fill, (mvb-tick, (bound, (is-group, (in-group, (round-start, (round-answer, (search-set, (mvb-round-start, (mvb-round-answer, (mvb-search, tt))))))))))))))))))))))))))))))))))))))))))))))))

@@ -9,7 +9,7 @@ use lib.ListN.{length, replicate}
 use Rattle.numbers.specs.Written.{bytesOf, Bytes}
 use Rattle.lists.specs.Values.{Cycle, PeriodicList}
 use Rattle.lists.specs.Sends.{subcycle, sentFrom, sends, takes}
-use Rattle.lists.specs.Written.{Split, CyclesObey, Obeys}
+use Rattle.list_laws.specs.Written.{Split, CyclesObey, Obeys}
 use Rattle.demands.specs.Demand2.{IsFile}
 
 -- a cycle with no word

@@ -25,8 +25,8 @@ use Rattle.lists.specs.Reading.{denied}
 use Rattle.lists.specs.Sends.{sends, takes}
 use Rattle.lists.specs.Accepts.{accepted}
 use Rattle.lists.specs.Answers.{toldRead}
-use Rattle.lists.specs.Written.{file, Obeys}
-use Rattle.lists.specs.Order.{want, one, Refuses}
+use Rattle.list_laws.specs.Written.{file, Obeys}
+use Rattle.list_laws.specs.Order.{want, one, Refuses}
 use Rattle.periods.specs.Period.{periodBy}
 use Rattle.periods.specs.Once.{times, OnceIn}
 use Rattle.port_table.specs.declared.Port.{Port}

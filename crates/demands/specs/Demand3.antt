@@ -25,7 +25,7 @@ use Rattle.rounds.specs.Lines.{Line, History, run, isRequest, counted, Right}
 use Rattle.rounds.specs.Demand.{Truthful, readOrder}
 use Rattle.rounds.specs.Bytes.{ByteLine, MadeFrom, TruthfulBytes}
 use Rattle.mvb.specs.Rounds.{stored, toldStep, startAnswer, startRun, roundAnswer, roundRun}
-use Rattle.lists.specs.Written.{All}
+use Rattle.list_laws.specs.Written.{All}
 use Rattle.periods.specs.Once.{one, times}
 
 -- no number stands twice

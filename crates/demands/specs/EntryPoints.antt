@@ -168,6 +168,10 @@ read-number = record { ended = numbers.read_number.ended; routine = numbers.read
 abbrev pub read-numbers : EntryPoint
 read-numbers = record { ended = numbers.read_numbers.ended; routine = numbers.read_numbers.Symbol.routine; promise = numbers.read_numbers.clauses; refuses = []; told = λ κs r. gives (r .count ∷ r .next ∷ []); at-exit = λ κs e. e }
 
+-- so many numbers, as far as they go, added up
+abbrev pub sum-numbers : EntryPoint
+sum-numbers = record { ended = numbers.sum_numbers.ended; routine = numbers.sum_numbers.Symbol.routine; promise = numbers.sum_numbers.clauses; refuses = []; told = λ κs r. gives (r .total ∷ r .next ∷ []); at-exit = λ κs e. e }
+
 -- "n from 0 to 10 (to 9 for 2 ms)"
 abbrev pub cycles-of : EntryPoint
 cycles-of = record { ended = lists.cycles_of.ended; routine = lists.cycles_of.Symbol.routine; promise = lists.cycles_of.clauses; refuses = []; told = λ κs r. value r; at-exit = λ κs e. e }
@@ -179,10 +183,6 @@ periods-of = record { ended = lists.periods_of.ended; routine = lists.periods_of
 -- whether a list is accepted
 abbrev pub list-check : EntryPoint
 list-check = record { ended = lists.list_check.ended; routine = lists.list_check.Symbol.routine; promise = lists.list_check.clauses; refuses = listRefusals; told = λ κs r. toldCheck r; at-exit = λ κs e. e }
-
--- a cycle as it stands in a file, as far as it goes
-abbrev pub cycle-at : EntryPoint
-cycle-at = record { ended = lists.cycle_at.ended; routine = lists.cycle_at.Symbol.routine; promise = lists.cycle_at.clauses; refuses = []; told = λ κs r. gives (r .words ∷ r .splits ∷ r .next ∷ []); at-exit = λ κs e. e }
 
 -- "all list refusals first, then 12, then 4"
 abbrev pub basic-period : EntryPoint
@@ -271,4 +271,4 @@ mvb-search = record { ended = mvb.round_calls.mvb_search.ended; routine = mvb.ro
 -- all of them
 abbrev pub entryPoints : List EntryPoint
 entryPoints =
-    refusal-number ∷ refusal-code ∷ check-of ∷ check-of-word ∷ row-of ∷ master-read ∷ master-write ∷ slave-read ∷ slave-write ∷ line-answer ∷ mvb-check-of ∷ mvb-master-read ∷ mvb-master-write ∷ mvb-slave-read ∷ mvb-slave-write ∷ telegram-bits ∷ guard ∷ mvb-telegram-bits ∷ mvb-guard ∷ number-at ∷ reader-new ∷ reader-next ∷ read-number ∷ read-numbers ∷ cycles-of ∷ periods-of ∷ list-check ∷ cycle-at ∷ basic-period ∷ list-text ∷ mvb-list-check ∷ mvb-basic-period ∷ mvb-list-text ∷ look ∷ mvb-arrive ∷ mvb-answer ∷ mvb-read ∷ mvb-fill ∷ mvb-tick ∷ bound ∷ is-group ∷ in-group ∷ round-start ∷ round-answer ∷ search-set ∷ mvb-round-start ∷ mvb-round-answer ∷ mvb-search ∷ []
+    refusal-number ∷ refusal-code ∷ check-of ∷ check-of-word ∷ row-of ∷ master-read ∷ master-write ∷ slave-read ∷ slave-write ∷ line-answer ∷ mvb-check-of ∷ mvb-master-read ∷ mvb-master-write ∷ mvb-slave-read ∷ mvb-slave-write ∷ telegram-bits ∷ guard ∷ mvb-telegram-bits ∷ mvb-guard ∷ number-at ∷ reader-new ∷ reader-next ∷ read-number ∷ read-numbers ∷ sum-numbers ∷ cycles-of ∷ periods-of ∷ list-check ∷ basic-period ∷ list-text ∷ mvb-list-check ∷ mvb-basic-period ∷ mvb-list-text ∷ look ∷ mvb-arrive ∷ mvb-answer ∷ mvb-read ∷ mvb-fill ∷ mvb-tick ∷ bound ∷ is-group ∷ in-group ∷ round-start ∷ round-answer ∷ search-set ∷ mvb-round-start ∷ mvb-round-answer ∷ mvb-search ∷ []

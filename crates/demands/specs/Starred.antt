@@ -1,5 +1,6 @@
 -- Document 01, "Lines to check by hand": the starred lines, one table and one statement over the definitions.
--- The others are run: crates/round_cases and crates/list_cases hold them to what the second program says.
+-- The others are run: `hand_lines` asks the lists' lines of this library, `round_cases` has the line that always collides, and `list_cases` the
+-- example of the list program.
 -- Assumes nothing.
 use mathlib.Core.Path.{_≡_}
 use mathlib.Core.List.{List, [], _∷_, map}
