@@ -1,5 +1,5 @@
 // The C face: every entry point as C calls it (include/mvb.h).
-mod frame_calls;
-mod list_calls;
-mod round_calls;
-mod timing_calls;
+pub mod frame_calls;
+pub mod list_calls;
+pub mod round_calls;
+pub mod timing_calls;

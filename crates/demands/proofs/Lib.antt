@@ -1,0 +1,13 @@
+pub mod Members
+pub mod Chains
+pub mod RefusedCalls
+pub mod RefusedLists
+pub mod RefusedPorts
+pub mod Shown
+pub mod Rows
+pub mod Demand1
+pub mod SomeFile
+pub mod Demand2
+pub mod AsCPlays
+pub mod Demand3
+pub mod Starred
