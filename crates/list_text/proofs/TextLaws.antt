@@ -71,16 +71,14 @@ decimal-three n h = go (ltb n 100)
     go true = omega (arith, two-few n)
     go false = omega (arith, top, length-append (two (n / 100)) (digit (n / 10 % 10) ∷ []), length-append (two (n / 100) ++ digit (n / 10 % 10) ∷ []) (digit (n % 10) ∷ []))
 
--- "a proved number of bytes that always suffices"
-pub text-few : (l : PeriodicList) → Obeys l → length (textOf (took l [])) ≤ 42256
-text-few l o =
+pub text-by-words : (l : PeriodicList) → Obeys l → length (textOf (took l [])) ≤ 15 * length (wordsOf (l .cycles)) + 16
+text-by-words l o =
     let h : Header = l .head in
     let w : ℕ = length (wordsOf (l .cycles)) in
     omega (
       arith,
       length-append (headerLine (h .ms) (h .gap) (h .reserve) w) (cycleLines 0 (l .cycles)),
       cycles-few 0 (l .cycles),
-      all-words-few l o,
       header-length (h .ms) (h .gap) (h .reserve) w,
       field-length (h .ms) space,
       field-length (h .gap) space,
@@ -91,6 +89,10 @@ text-few l o =
       decimal-few (h .reserve),
       decimal-few w,
     )
+
+-- "a proved number of bytes that always suffices"
+pub text-few : (l : PeriodicList) → Obeys l → length (textOf (took l [])) ≤ 42256
+text-few l o = omega (arith, text-by-words l o, all-words-few l o)
 
 pub refused-few : (n : ℕ) → length (refusedLine n) ≤ 13
 refused-few n = omega (arith, refused-length n, field-length n newline, decimal-few n)
@@ -205,6 +207,22 @@ module _ (s : List ℕ) (h : Header) (words : ℕ) (k : ListHere s h words) (out
 
 pub is-accepted : (s : List ℕ) (h : Header) (words : ℕ) (k : ListHere s h words) → accepted s ≡ took (k .known .l) []
 is-accepted s h words k = subst (λ (x : List ℕ). accepted x ≡ took (k .known .l) []) (k .known .written-so) (obeys-accepted (k .known .l) (k .known .obeys))
+
+-- where there is room for so many words at the most
+module _ (s : List ℕ) (h : Header) (words : ℕ) (k : ListHere s h words) where
+  pub words-many : words ≤ 2816
+  words-many = omega (arith, k .count, all-words-few (k .known .l) (k .known .obeys))
+
+  module _ (out : List ℕ) (b : 15 * words + 16 ≤ length out) where
+    pub surely-writes : TextFits true s out
+    surely-writes p o q =
+        let x : k .known .l ≡ p = one-list (k .known .l) p (k .known .obeys) o (k .known .written-so ∙ sym q) in
+        writes (length (textOf (took p []))) out (omega (arith, text-few p o)) (omega (arith, text-by-words p o, k .count, ap (λ (z : PeriodicList). length (wordsOf (z .cycles))) x))
+
+    pub written-at-once : (m : ℕ) (out' : List ℕ) → TextWrote true s out out' m → Answer s out (gives (m ∷ [])) out'
+    written-at-once m out' w =
+        let l : PeriodicList = k .known .l in
+        enough s out (took l []) (is-accepted s h words k) (length (textOf (took l []))) refl (omega (arith, text-by-words l (k .known .obeys), k .count)) m out' (w l (k .known .obeys) (k .known .written-so))
 
 -- ---- what the check of the list tells
 told-no : (r : Read PeriodicList) (m : Refusal) → refusing m ≡ toldRead r → r ≡ denied (numberOf m)

@@ -46,6 +46,11 @@ fn good_text(list: &[u8], head: Header, words: usize, out: &mut [u8]) -> Text
     ensures { λ r. ⌜ (toldText r ≡ textBy (now (list .entry)) (length (now (out .entry))) refusal (λ t. gives (length t ∷ [])))
         × (now (out .exit) ≡ textBy (now (list .entry)) (length (now (out .entry))) (λ m. now (out .entry)) (λ t. t ++ drop (length t) (now (out .entry)))) ⌝ }
 {
+    // No line of a word is longer than 15 bytes, nor the header than 16.
+    if 15 * words + 16 <= out.len() {
+        let all = put_list(list, head, words, out, true);
+        return Text::Bytes(all);
+    }
     let k = put_list(list, head, words, out, false);
     if out.len() < k {
         return Text::Refused(Refusal::TooShort);
