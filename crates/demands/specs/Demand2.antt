@@ -36,7 +36,7 @@ use Rattle.ports.specs.Arriving.{arrive, arriveStore, arriveAges}
 use Rattle.ports.specs.Answering.{answer, answerOut}
 use Rattle.ports.specs.Reading.{read, readOut, readAge}
 use Rattle.ports.specs.Filling.{fill, fillStore}
-use Rattle.ports.proofs.ThroughTheBus.{Sink}
+use Rattle.ports.specs.Sinks.{Sink}
 
 -- "Frames are those of IEC 61375-3-1, written and read"
 pub record Frames : Type 0 where

@@ -24,6 +24,7 @@ use Rattle.ports.specs.Arriving.{arriveRefusal, arrive, arriveStore, arr
 use Rattle.ports.specs.Answering.{answerRefusal, answer, answerOut}
 use Rattle.ports.specs.Reading.{readRefusal, read, readOut, readAge}
 use Rattle.ports.specs.Filling.{fillRefusal, fill, fillStore}
+use Rattle.ports.specs.Sinks.{Sink}
 use Rattle.ports.proofs.Frames.{process-data, read-gives}
 use Rattle.ports.proofs.Bytes.{replaced-own}
 use Rattle.ports.proofs.Outcomes.{accepted, without, readable, Answerable, answerable, Fillable, fillable}
@@ -68,15 +69,6 @@ answered-frame ps store word out n ok l =
     ap (take n) (without (answerRefusal ps store word out) _ out (z .0)) ∙ take-at _ (drop (frameBytes (fCode word)) out) n (slave-frame-length (fCode word) _ l ∙ e)
 
 -- ---- the sink's side, and all of it
-
--- what the other side has for a word: a good table with a sink of its address and F_code, and store and ages for it
-pub record Sink (ps : List Port) (store ages : List ℕ) (word : ℕ) : Type 0 where
-  pub is-good : good ps ≡ true
-  pub stored : tableBytes ps ≤ length store
-  pub all-ages : length ps ≤ length ages
-  pub there : placeOf (address word) ps < length ps
-  pub same-code : portOf (address word) ps .«f_code» ≡ fCode word
-  pub is-sink : isSink (portOf (address word) ps) ≡ true
 
 module _ (ps : List Port) (store : List ℕ) (word : ℕ) (d out : List ℕ) (n : ℕ)
     (filled : fill ps store (address word) d ≡ gives (0 ∷ [])) (sent : answer ps (fillStore ps store (address word) d) word out ≡ gives (n ∷ []))

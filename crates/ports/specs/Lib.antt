@@ -4,4 +4,5 @@ pub mod Answering
 pub mod Reading
 pub mod Filling
 pub mod Ticking
+pub mod Sinks
 pub mod Inside
