@@ -120,7 +120,9 @@ static struct query ask(const struct ref_list *list, unsigned j, uint32_t *x)
 static void put_some(struct cases *to, const struct file *file, uint32_t *x)
 {
     struct ref_list list;
-    struct query query[5] = {{random_below(x, 2048), random_below(x, 8)}};
+    struct query query[5] = {{0}};
+    query[0].j = random_below(x, 2048);
+    query[0].places = random_below(x, 8);
     int refusal = ref_list_read(file->bytes, file->len, &list);
     if (refusal != 0) {
         put_list(to, file, &list, refusal, query, 1, x);
@@ -170,8 +172,9 @@ static void damage_bytes(struct cases *to, const struct draft *draft, unsigned o
     file.len = write_list(file.bytes, draft);
     for (size_t i = 0; i < file.len; i++) {
         uint8_t right = file.bytes[i];
-        uint8_t wrong[3] = {(uint8_t)(right ^ 128), (uint8_t)(right ^ 1u << random_below(x, 7)),
-                            (uint8_t)random_below(x, 256)};
+        uint8_t wrong[3] = {(uint8_t)(right ^ 128)};
+        wrong[1] = (uint8_t)(right ^ 1u << random_below(x, 7));
+        wrong[2] = (uint8_t)random_below(x, 256);
         for (int k = 0; chosen(one_in, x) && k < 3; k++) {
             file.bytes[i] = wrong[k];
             put_some(to, &file, x);
@@ -337,7 +340,8 @@ static void put_damaged(struct cases *to, struct draft *draft, uint32_t *x)
 static struct shape some_shape(unsigned most, unsigned words, uint32_t *x)
 {
     static const int f_codes[8] = {-1, -1, -1, 0, 1, 3, 4, 15};
-    struct shape shape = {.ms = 1 + random_below(x, 2), .gap = 4 + random_below(x, 125)};
+    struct shape shape = {.ms = 1 + random_below(x, 2)};
+    shape.gap = 4 + random_below(x, 125);
     uint32_t least = 67 + shape.gap;
     shape.reserve = least;
     if (random_below(x, 2) == 0)
@@ -409,12 +413,14 @@ static void put_shapes(struct cases *to, uint32_t *x)
         put_damaged(to, &draft, x);
     }
     for (int i = 0; i < 30; i++) {
-        struct shape shape = some_shape(4 + random_below(x, 7), 10u << random_below(x, 5), x);
+        unsigned words = 10u << random_below(x, 5);
+        struct shape shape = some_shape(4 + random_below(x, 7), words, x);
         draft_list(&draft, &shape, x);
         put_damaged(to, &draft, x);
     }
     for (int i = 0; i < 300; i++) {
-        struct shape shape = some_shape(random_below(x, 11), 1u << random_below(x, 9), x);
+        unsigned words = 1u << random_below(x, 9);
+        struct shape shape = some_shape(random_below(x, 11), words, x);
         draft_list(&draft, &shape, x);
         if (i % 8 == 0)
             put_every(to, &draft, x);

@@ -272,7 +272,8 @@ static void put_wholes(struct cases *to)
                 put_whole(to, (enum line_kind)kind, random_below(&x, DEVICES), &told);
             }
     for (unsigned i = 0; i < 2000; i++) {
-        struct told_set told = {random_below(&x, 6), 0, random_next(&x), {0}};
+        struct told_set told = {random_below(&x, 6), 0, 0, {0}};
+        told.seed = random_next(&x);
         put_whole(to, i % 2 ? ANYTHING : TRUTHFUL, random_below(&x, DEVICES), &told);
     }
 }
