@@ -1,7 +1,7 @@
 -- Chains of checks: a refusal is a number of document 01, and what was lent is as it was. One lemma over chains serves every entry point.
 -- Assumes nothing.
 use mathlib.Core.Path.{_≡_, refl, sym, ap, subst, _∙_}
-use mathlib.Core.Bool.{Bool, true, false, cond, _&&_, false≢true}
+use mathlib.Core.Bool.{Bool, true, false, cond, _&&_, and-eq-true-iff}
 use mathlib.Core.List.{List, [], _∷_, List·Memᴰ}
 use Prim.Native.Nat.{ℕ, _≤_}
 use native.Mathlib.Omega.{arith}
@@ -47,22 +47,18 @@ abbrev pub allListed : List ℕ → List (Bool × ℕ) → Bool
 allListed ns [] = true
 allListed ns (c ∷ cs) = isListed ns (c .1) && allListed ns cs
 
-both : (a b : Bool) → (a && b) ≡ true → (a ≡ true) × (b ≡ true)
-both true b h = (refl, h)
-both false b h = absurd (false≢true h)
-
 pub listed : (ns : List ℕ) (k : ℕ) → isListed ns k ≡ true → Listed ns k
 listed ns k h =
-    let p = both (leb 1 k) (leb k 19 && among k ns) h in
-    let q = both (leb k 19) (among k ns) (p .1) in
+    let p = and-eq-true-iff (leb 1 k) (leb k 19 && among k ns) .0 h in
+    let q = and-eq-true-iff (leb k 19) (among k ns) .0 (p .1) in
     (leb-true 1 k (p .0), leb-true k 19 (q .0), is-among k ns (q .1))
 
 -- a chain before more
 pub after : {X : Type 0} (ns : List ℕ) (cs : List (Bool × ℕ)) (t : Told) (new old : X) → allListed ns cs ≡ true → Refusing ns t (new ≡ old)
     → Refusing ns (first cs refusal t) (first cs (λ n. old) new ≡ old)
 after ns [] t new old h rest = rest
-after ns ((true, k) ∷ cs) t new old h rest = refuses k (listed ns k (both (isListed ns k) (allListed ns cs) h .0)) refl
-after ns ((false, k) ∷ cs) t new old h rest = after ns cs t new old (both (isListed ns k) (allListed ns cs) h .1) rest
+after ns ((true, k) ∷ cs) t new old h rest = refuses k (listed ns k (and-eq-true-iff (isListed ns k) (allListed ns cs) .0 h .0)) refl
+after ns ((false, k) ∷ cs) t new old h rest = after ns cs t new old (and-eq-true-iff (isListed ns k) (allListed ns cs) .0 h .1) rest
 
 -- a chain refuses with its numbers alone, and leaves what was there
 pub chain : {X : Type 0} (ns : List ℕ) (cs : List (Bool × ℕ)) (v : List ℕ) (new old : X) → allListed ns cs ≡ true
@@ -82,7 +78,7 @@ unless ns false k t new old h rest = refuses k (listed ns k h) refl
 -- a chain of numbers alone, where 0 stands for none
 pub number-of : (ns : List ℕ) (cs : List (Bool × ℕ)) (values : List ℕ) → allListed ns cs ≡ true → Refusing ns (answered (first cs (λ n. n) 0) values) (Unit {0})
 number-of ns [] values h = answers values
-number-of ns ((false, k) ∷ cs) values h = number-of ns cs values (both (isListed ns k) (allListed ns cs) h .1)
+number-of ns ((false, k) ∷ cs) values h = number-of ns cs values (and-eq-true-iff (isListed ns k) (allListed ns cs) .0 h .1)
 number-of ns ((true, k) ∷ cs) values h =
-    let q = listed ns k (both (isListed ns k) (allListed ns cs) h .0) in
+    let q = listed ns k (and-eq-true-iff (isListed ns k) (allListed ns cs) .0 h .0) in
     told-so (ap (λ (b : Bool). cond b (gives values) (refusal k)) (ne-eqb k 0 (λ e. omega (arith, q .0)))) (λ u. u) (refuses k q tt)

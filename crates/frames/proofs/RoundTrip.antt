@@ -1,7 +1,7 @@
 -- What is written is read back, and what is accepted is what would have been written (demand 2), for Slave and Master Frames.
 -- Assumes nothing.
 use mathlib.Core.Path.{_≡_, refl, sym, ap, ap₂, _∙_, subst}
-use mathlib.Core.Bool.{Bool, true, false, not, cond, _&&_}
+use mathlib.Core.Bool.{Bool, true, false, cond, _&&_, and-eq-true-iff}
 use mathlib.Core.List.{List, [], _∷_, _++_, append-nil}
 use Prim.Native.Nat.{ℕ, zero, suc, _+_, _-_, _*_, _/_, _%_, _≤_, _<_}
 use native.Mathlib.Nat.{suc-mul, suc-inj, le-of-eq}
@@ -242,11 +242,7 @@ master-written-is-read word n out h =
     ∙ ap (λ (x : ℕ). gives (x ∷ [])) (master-frame-word word)
 
 pub bytes-first : (x : ℕ) (l : List ℕ) → areBytes (x ∷ l) ≡ true → (x < 256) × (areBytes l ≡ true)
-bytes-first x l h = let p = go (ltb x 256) (areBytes l) h in (ltb-true x 256 (p .0), p .1)
-  where
-    go : (a b : Bool) → (a && b) ≡ true → (a ≡ true) × (b ≡ true)
-    go true b h = (refl, h)
-    go false b h = absurd (mathlib.Core.Bool.false≢true h)
+bytes-first x l h = let p = and-eq-true-iff (ltb x 256) (areBytes l) .0 h in (ltb-true x 256 (p .0), p .1)
 
 -- the frame of the word in three bytes is these three bytes
 bytes-again : (w : List ℕ) → length w ≡ 3 → areBytes w ≡ true → rightBlocks 1 2 w ≡ 1 → masterFrame (wordIn w) ≡ w

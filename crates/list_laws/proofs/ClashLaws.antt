@@ -4,7 +4,7 @@ use Prim.Native.Nat.{ℕ, zero, suc, _+_, _/_, _%_, _≤_, _<_}
 use mathlib.Core.Path.{_≡_, refl, ap, sym, _∙_, subst}
 use mathlib.Core.Logic.{_⊎_, inl, inr, ⊎-elim}
 use mathlib.Core.List.{List, [], _∷_, _++_, append-assoc, append-nil}
-use mathlib.Core.Bool.{Bool, true, false, _&&_, _||_}
+use mathlib.Core.Bool.{Bool, true, false, _&&_, _||_, and-eq-true-iff}
 use native.Mathlib.Omega.{arith}
 use borrow.Author.Tests.{lt-ltb, ltb-true, eq-eqb, eqb-true}
 use lib.Dec.{ltb, eqb}
@@ -14,10 +14,6 @@ use Rattle.frames.specs.Words.{fCode, address}
 use Rattle.lists.specs.Rules.{processData, listable, clash, clashes}
 use Rattle.list_laws.specs.Written.{All, Listable, Clash}
 use Rattle.list_laws.proofs.WasLaws.{Fresh}
-
-and-both : (a b : Bool) → (a && b) ≡ true → (a ≡ true) × (b ≡ true)
-and-both true b e = (refl, e)
-and-both false b e = let z : _≡_ {A = ℕ} 0 1 = cc in absurd (omega arith)
 
 or-cases : (a b : Bool) → (a || b) ≡ true → (a ≡ true) ⊎ (b ≡ true)
 or-cases true b e = inl refl
@@ -46,11 +42,11 @@ unfolding clash
 clash-prop v w e =
     ⊎-elim
     (λ h.
-    let a = and-both (processData v) (processData w && eqb (address v) (address w)) h in
-    let b = and-both (processData w) (eqb (address v) (address w)) (a .1) in
+    let a = and-eq-true-iff (processData v) (processData w && eqb (address v) (address w)) .0 h in
+    let b = and-eq-true-iff (processData w) (eqb (address v) (address w)) .0 (a .1) in
     inl (ltb-true (v / 4096) 5 (a .0), ltb-true (w / 4096) 5 (b .0), eqb-true (v % 4096) (w % 4096) (b .1)))
     (λ h.
-    let a = and-both (eqb (fCode w) 15) (eqb v w) h in
+    let a = and-eq-true-iff (eqb (fCode w) 15) (eqb v w) .0 h in
     inr (eqb-true (w / 4096) 15 (a .0), eqb-true v w (a .1)))
     (or-cases (processData v && (processData w && eqb (address v) (address w))) (eqb (fCode w) 15 && eqb v w) e)
 

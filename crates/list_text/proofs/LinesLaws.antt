@@ -16,6 +16,7 @@ use Rattle.numbers.proofs.ThereLaws.{most-left, most-right, cut-written, sum-th
 use Rattle.lists.specs.Values.{Cycle}
 use Rattle.lists.specs.Sends.{cutBy, subcycles}
 use Rattle.periods.specs.Inside.{CycleHere, SplitHere}
+use Rattle.lists.proofs.SplitLaws.{cut-length}
 use Rattle.periods.proofs.HereLaws.{shape, splits-most, all-words-most, size-small, after-words, count-there, no-split, only-words, no-word, nothing-here}
 use Rattle.list_laws.proofs.Acceptance.{words-most}
 use Rattle.list_text.specs.Text.{wordLine, wordLines, subcycleLines}
@@ -105,10 +106,6 @@ module _ (s : List ℕ) (at many cycle sub : ℕ) (write : Bool) (to : ℕ) (out
 cut-append : (ws a b : List ℕ) → cutBy ws (a ++ b) ≡ cutBy ws a ++ cutBy (drop (sum a) ws) b
 cut-append ws [] b = refl
 cut-append ws (z ∷ a) b = ap (λ (l : List (List ℕ)). take z ws ∷ l) (cut-append (drop z ws) a b ∙ ap (λ (l : List ℕ). cutBy (drop z ws) a ++ cutBy l b) (drop-drop (sum a) z ws))
-
-cut-length : (ws zs : List ℕ) → length (cutBy ws zs) ≡ length zs
-cut-length ws [] = refl
-cut-length ws (z ∷ zs) = ap suc (cut-length (drop z ws) zs)
 
 subs-append : (cycle s : ℕ) (a b : List (List ℕ)) → subcycleLines cycle s (a ++ b) ≡ subcycleLines cycle s a ++ subcycleLines cycle (s + length a) b
 subs-append cycle s [] b = let e : s ≡ s + 0 = omega arith in ap (λ (k : ℕ). subcycleLines cycle k b) e

@@ -22,6 +22,7 @@ use Rattle.lists.specs.Accepts.{accepted}
 use Rattle.lists.specs.Answers.{toldCheck, toldRead}
 use Rattle.list_laws.specs.Written.{file, CyclesObey, Obeys}
 use Rattle.lists.proofs.ListLaws.{cycles-most}
+use Rattle.periods.proofs.PeriodLaws.{told-no}
 use Rattle.list_laws.proofs.Acceptance.{accepted-obeys, obeys-accepted, one-list}
 use Rattle.periods.specs.Inside.{IsList}
 use Rattle.list_text.specs.Text.{digit, two, decimal, space, newline, field, headerLine, wordLine, refusedLine, wordLines, subcycleLines, cycleLines, textOf, textBy}
@@ -225,10 +226,6 @@ module _ (s : List ℕ) (h : Header) (words : ℕ) (k : ListHere s h words) wher
         enough s out (took l []) (is-accepted s h words k) (length (textOf (took l []))) refl (omega (arith, text-by-words l (k .known .obeys), k .count)) m out' (w l (k .known .obeys) (k .known .written-so))
 
 -- ---- what the check of the list tells
-told-no : (r : Read PeriodicList) (m : Refusal) → refusing m ≡ toldRead r → r ≡ denied (numberOf m)
-told-no (denied n) m e = ap denied (cc)
-told-no (took l rest) m e = let z : _≡_ {A = ℕ} 0 1 = cc in absurd (omega arith)
-
 record Same (r : Read PeriodicList) (h : Header) (n : ℕ) : Type 0 where
   pub l : PeriodicList
   pub rest : List ℕ

@@ -3,7 +3,7 @@
 use Prim.Native.Nat.{ℕ, _+_, _*_, _≤_, _<_}
 use mathlib.Core.Path.{_≡_, refl, ap, sym, _∙_}
 use mathlib.Core.List.{List}
-use mathlib.Core.Bool.{Bool, true, false, _&&_}
+use mathlib.Core.Bool.{Bool, true, false, _&&_, and-eq-true-iff}
 use native.Mathlib.Omega.{arith}
 use borrow.Author.Tests.{le-leb, lt-leb, leb-true}
 use lib.Dec.{leb}
@@ -53,10 +53,6 @@ module _ (lo hi : ℕ) (bytes : List ℕ) where
     within-yes l h = rw (e, le-leb lo v l, le-leb v hi h)
 
 -- a number that is read is in its range
-and-both : (a b : Bool) → (a && b) ≡ true → (a ≡ true) × (b ≡ true)
-and-both true b e = (refl, e)
-and-both false b e = let z : _≡_ {A = ℕ} 0 1 = cc in absurd (omega arith)
-
 pub in-range : (lo hi : ℕ) (bytes : List ℕ) (v : ℕ) (rest : List ℕ) → within lo hi bytes ≡ took v rest → (numberIn bytes ≡ took v rest) × (lo ≤ v) × (v ≤ hi)
 unfolding within
 in-range lo hi bytes v rest e = go (numberIn bytes) refl e
@@ -69,7 +65,7 @@ in-range lo hi bytes v rest e = go (numberIn bytes) refl e
     go (denied n) q e = let z : _≡_ {A = ℕ} 0 1 = cc in absurd (omega arith)
     go (took w r) q e =
         let t = test (leb lo w && leb w hi) w r e in
-        let b = and-both (leb lo w) (leb w hi) (t .0) in
+        let b = and-eq-true-iff (leb lo w) (leb w hi) .0 (t .0) in
         let i : w ≡ v = cc (t .1) in
         (q ∙ t .1, omega (arith, leb-true lo w (b .0)), omega (arith, leb-true w hi (b .1)))
 

@@ -195,7 +195,7 @@ no-marks =
       at = λ m h. let q : m / 32 < 256 = omega arith in ap (bit (m % 32)) (getD-replicate {A = ℕ} 256 (m / 32) 0 0 q) ∙ ap (λ (x : ℕ). x % 2) (zero-div (2 ^ (m % 32)));
     }
 
-periods-power : (ms : ℕ) → periodsOf ms ≡ 2 ^ (cyclesOf ms - 1)
+pub periods-power : (ms : ℕ) → periodsOf ms ≡ 2 ^ (cyclesOf ms - 1)
 periods-power ms = go (eqb ms 1)
   where
     go : (t : Bool) → byMs t 1024 512 ≡ 2 ^ (byMs t 11 10 - 1)

@@ -21,6 +21,7 @@ use Rattle.lists.specs.Accepts.{accepted}
 use Rattle.lists.specs.Sends.{cutBy, subcycles, subcycle, sentFrom, sends, takes}
 use Rattle.list_laws.specs.Written.{All, Listable, Clash, Split, CycleObeys, CyclesObey, Obeys}
 use Rattle.list_laws.proofs.ClashLaws.{listable-prop, prop-listable}
+use Rattle.lists.proofs.ListLaws.{periods-power}
 use Rattle.lists.proofs.SentLaws.{words-append}
 use Rattle.list_laws.proofs.Acceptance.{accepted-obeys, obey-listable}
 use Rattle.periods.specs.Once.{one, times, sentIn, OnceIn}
@@ -169,13 +170,6 @@ single w (v ∷ ws) a h = go (single w ws (a .1) (λ i j p q. h (suc i) (suc j) 
     go rest false q = let e : one (eqb v w) ≡ 0 = ap one q in omega arith
 
 -- ---- the theorem, over a list that obeys the rules
-periods-are : (ms : ℕ) → periodsOf ms ≡ 2 ^ (cyclesOf ms - 1)
-periods-are ms = go (eqb ms 1)
-  where
-    go : (t : Bool) → byMs t 1024 512 ≡ 2 ^ (byMs t 11 10 - 1)
-    go true = refl
-    go false = refl
-
 mod-of-mod : (x m e : ℕ) → m ≤ e → x % 2 ^ e % 2 ^ m ≡ x % 2 ^ m
 mod-of-mod x m e h = let q : e - m + m ≡ e = omega arith in ap (λ (k : ℕ). x % 2 ^ k % 2 ^ m) (sym q) ∙ mod-mod-pow x (e - m) m
 
@@ -214,7 +208,7 @@ module _ (l : PeriodicList) (o : Obeys l) (w : ℕ) (done : List Cycle) (c : Cyc
 
   period : (x : ℕ) → sentIn l w x ≡ times w (subcycle c (x % 2 ^ n))
   period x =
-      here (x % periodsOf (l .head .ms)) ∙ ap (λ (k : ℕ). times w (subcycle c (x % k % 2 ^ n))) (periods-are (l .head .ms))
+      here (x % periodsOf (l .head .ms)) ∙ ap (λ (k : ℕ). times w (subcycle c (x % k % 2 ^ n))) (periods-power (l .head .ms))
       ∙ ap (λ (k : ℕ). times w (subcycle c k)) (mod-of-mod x n (cyclesOf (l .head .ms) - 1) (omega (arith, n-below)))
 
   cycle-obeys : CycleObeys n c

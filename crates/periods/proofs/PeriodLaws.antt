@@ -312,7 +312,7 @@ module _ (s : List ℕ) (ms j : ℕ) (out : List ℕ) (k : IsList s ms) where
         let b : leb (length (sends (k .l) j)) (length out) ≡ true = le-leb (length (sends (k .l) j)) (length out) (omega (arith, count)) in
         (rw (a, here, b) (ap (λ (x : ℕ). gives (x ∷ [])) count), rw (a, here, b) (q ∙ ap (λ (x : List ℕ). x ++ drop (length x) out) words))
 
-told-no : (r : Read PeriodicList) (m : Refusal) → refusing m ≡ toldRead r → r ≡ denied (numberOf m)
+pub told-no : (r : Read PeriodicList) (m : Refusal) → refusing m ≡ toldRead r → r ≡ denied (numberOf m)
 told-no (denied n) m e = ap denied (cc)
 told-no (took l rest) m e = let z : _≡_ {A = ℕ} 0 1 = cc in absurd (omega arith)
 

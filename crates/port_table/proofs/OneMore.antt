@@ -1,7 +1,7 @@
 -- A table with one record more: what each definition makes of it.
 -- Assumes nothing.
 use mathlib.Core.Path.{_≡_, refl, sym, ap, ap₂, _∙_}
-use mathlib.Core.Bool.{Bool, true, false, cond, _&&_}
+use mathlib.Core.Bool.{Bool, true, false, cond, _&&_, and-eq-true-iff, and-true}
 use mathlib.Core.List.{List, [], _∷_, _++_}
 use Prim.Native.Nat.{ℕ, suc, _+_, _*_, _≤_, _<_}
 use native.Mathlib.Nat.{add-zero, zero-add, add-assoc}
@@ -20,14 +20,6 @@ use Rattle.port_table.specs.Seen.{nextFrom, mark, marksFrom}
 pub by-cases : (b : Bool) {X : Type 0} → (b ≡ true → X) → (b ≡ false → X) → X
 by-cases true f g = f refl
 by-cases false f g = g refl
-
-pub and-split : (a b : Bool) → (a && b) ≡ true → (a ≡ true) × (b ≡ true)
-and-split true b h = (refl, h)
-and-split false b h = absurd (mathlib.Core.Bool.false≢true h)
-
-and-true : (b : Bool) → (b && true) ≡ b
-and-true true = refl
-and-true false = refl
 
 pub not-both : {b : Bool} {X : Type 0} → b ≡ true → b ≡ false → X
 not-both t f = absurd (mathlib.Core.Bool.false≢true (sym f ∙ t))
@@ -69,9 +61,9 @@ pub rising-split : (low : ℕ) (p : Port) (ps : List Port) → rising low (p ∷
     → (leb low (p .address) ≡ true) × (ltb (p .address) 4096 ≡ true) × (ltb (p .«f_code») 5 ≡ true) × (rising (p .address + 1) ps ≡ true)
 unfolding rising
 rising-split low p ps h =
-    let a = and-split (leb low (p .address)) _ h in
-    let b = and-split (ltb (p .address) 4096) _ (a .1) in
-    let c = and-split (ltb (p .«f_code») 5) _ (b .1) in
+    let a = and-eq-true-iff (leb low (p .address)) _ .0 h in
+    let b = and-eq-true-iff (ltb (p .address) 4096) _ .0 (a .1) in
+    let c = and-eq-true-iff (ltb (p .«f_code») 5) _ .0 (b .1) in
     (a .0, b .0, c .0, c .1)
 
 rising-more : (low : ℕ) (ps : List Port) (p : Port) → rising low ps ≡ true → rising low (ps ++ p ∷ []) ≡ follows (nextFrom low ps) p
@@ -93,7 +85,7 @@ rising-less low (q ∷ ps) p h =
 
 pub good-split : (ps : List Port) → good ps ≡ true → (length ps ≤ 256) × (rising 0 ps ≡ true)
 unfolding good
-good-split ps h = let s = and-split (leb (length ps) 256) (rising 0 ps) h in (leb-true (length ps) 256 (s .0), s .1)
+good-split ps h = let s = and-eq-true-iff (leb (length ps) 256) (rising 0 ps) .0 h in (leb-true (length ps) 256 (s .0), s .1)
 
 leb-more : (n m : ℕ) → leb (n + 1) m ≡ ltb n m
 leb-more n m = by-cases (ltb n m) (λ t. le-leb (n + 1) m (omega (arith, ltb-true n m t)) ∙ sym t) (λ f. by-cases (leb (n + 1) m) (λ t. not-both (lt-ltb n m (omega (arith, leb-true (n + 1) m t))) f) (λ g. g ∙ sym f))

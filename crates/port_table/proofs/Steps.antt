@@ -1,7 +1,7 @@
 -- The walk's step, way out by way out: from what one table shows to what it shows with one record more.
 -- Assumes nothing.
 use mathlib.Core.Path.{_≡_, refl, sym, ap, ap₂, _∙_, subst}
-use mathlib.Core.Bool.{Bool, true, false, not, cond}
+use mathlib.Core.Bool.{Bool, true, false, not, cond, and-eq-true-iff}
 use mathlib.Core.List.{List, [], _∷_, _++_, append-nil}
 use Prim.Native.Nat.{ℕ, _+_, _*_, _≤_, _<_}
 use native.Mathlib.Omega.{arith}
@@ -15,7 +15,7 @@ use Rattle.port_table.specs.declared.Seen.{Seen}
 use Rattle.port_table.specs.Table.{rising, good, portBytes, tableBytes, before, placeOf, noPort}
 use Rattle.port_table.specs.Seen.{nextFrom, mark, marksFrom, noMarks, emptySeen, goodSeen, seenOf}
 use Rattle.port_table.specs.Inside.{Walked, fits, placeAfter}
-use Rattle.port_table.proofs.OneMore.{by-cases, and-split, not-both, bytes-most, bytes-more, length-more, good-more, bad-more, next-more, marks-more, before-found, before-missed}
+use Rattle.port_table.proofs.OneMore.{by-cases, not-both, bytes-most, bytes-more, length-more, good-more, bad-more, next-more, marks-more, before-found, before-missed}
 
 -- ---- what a walk shows
 
@@ -58,9 +58,9 @@ pub record Fits (s : Seen) (p : Port) : Type 0 where
 
 pub fits-is : (s : Seen) (p : Port) → fits s p ≡ true → Fits s p
 fits-is s p h =
-    let a = and-split (ltb (s .count) 256) _ h in
-    let b = and-split (leb (s .next) (p .address)) _ (a .1) in
-    let c = and-split (ltb (p .address) 4096) _ (b .1) in
+    let a = and-eq-true-iff (ltb (s .count) 256) _ .0 h in
+    let b = and-eq-true-iff (leb (s .next) (p .address)) _ .0 (a .1) in
+    let c = and-eq-true-iff (ltb (p .address) 4096) _ .0 (b .1) in
     record { count = ltb-true _ _ (a .0); low = leb-true _ _ (b .0); high = ltb-true _ _ (c .0); code = ltb-true _ _ (c .1) }
 
 module _ (s : Seen) (p : Port) where

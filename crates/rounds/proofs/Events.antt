@@ -2,7 +2,7 @@
 -- taken lowest first.
 -- Assumes nothing.
 use mathlib.Core.Path.{_≡_, refl, sym, ap, ap₂, _∙_, subst}
-use mathlib.Core.Bool.{Bool, true, false, cond, _&&_, _||_}
+use mathlib.Core.Bool.{Bool, true, false, cond, _&&_, _||_, and-eq-true-iff}
 use mathlib.Core.List.{List, [], _∷_, append-nil}
 use Prim.Native.Nat.{ℕ, zero, suc, _+_, _-_, _^_, _≤_, _<_}
 use native.Mathlib.Omega.{arith}
@@ -69,16 +69,12 @@ pub named-good : (m c : ℕ) (a : LineAnswer) (x : ℕ) → judge m c a ≡ name
 named-good m c Silence x e = absurd (let z : _≡_ {A = ℕ} 0 1 = cc in omega arith)
 named-good m c (Reply w) x e =
     let t = tell (isGood m c w) refl e in
-    let g = both (eqb (fCode x) 12) (inGroup m c (address x)) (subst (λ (y : ℕ). isGood m c y ≡ true) (t .1) (t .0)) in
+    let g = and-eq-true-iff (eqb (fCode x) 12) (inGroup m c (address x)) .0 (subst (λ (y : ℕ). isGood m c y ≡ true) (t .1) (t .0)) in
     (eqb-true _ _ (g .0), g .1)
   where
     tell : (b : Bool) → isGood m c w ≡ b → cond b (named w) unclear ≡ named x → (isGood m c w ≡ true) × (w ≡ x)
     tell true g k = (g, cc)
     tell false g k = absurd (let z : _≡_ {A = ℕ} 0 1 = cc in omega arith)
-
-    both : (a b : Bool) → (a && b) ≡ true → (a ≡ true) × (b ≡ true)
-    both true b k = (refl, k)
-    both false b k = absurd (let z : _≡_ {A = ℕ} 0 1 = cc in omega arith)
 named-good m c Collision x e = absurd (let z : _≡_ {A = ℕ} 0 1 = cc in omega arith)
 
 -- ---- the counts, with d reads handed out whose answers were not taken; and the devices read so far lie before place b of the order
