@@ -17,10 +17,10 @@ use Rattle.lists.specs.Values.{Cycle}
 use Rattle.lists.specs.Sends.{cutBy, subcycles}
 use Rattle.periods.specs.Inside.{CycleHere, SplitHere}
 use Rattle.lists.proofs.SplitLaws.{cut-length}
-use Rattle.periods.proofs.HereLaws.{shape, splits-most, all-words-most, size-small, after-words, count-there, no-split, only-words, no-word, nothing-here}
+use Rattle.periods.proofs.HereLaws.{shape, splits-most, all-words-most, size-small, count-there, no-split, only-words, no-word, nothing-here}
 use Rattle.list_laws.proofs.Acceptance.{words-most}
 use Rattle.list_text.specs.Text.{wordLine, wordLines, subcycleLines}
-use Rattle.list_text.specs.Inside.{wroteIf, Wrote, RoomIf, Fits, WordsHere, LinesPut, linesOf, LinesFit}
+use Rattle.list_text.specs.Inside.{wroteIf, Wrote, RoomIf, Fits, WordsHere, LinesPut, linesOf, SplitsAt}
 use Rattle.list_text.proofs.WroteLaws.{fits-part, and-then, as-bytes}
 
 nothing-written : (write : Bool) (at : ℕ) (out : List ℕ) → out ≡ wroteIf write at [] out
@@ -36,7 +36,7 @@ lines-append cycle sub [] b = refl
 lines-append cycle sub (w ∷ a) b = ap (λ (l : List ℕ). wordLine cycle sub w ++ l) (lines-append cycle sub a b) ∙ sym (append-assoc (wordLine cycle sub w) (wordLines cycle sub a) (wordLines cycle sub b))
 
 -- the next of some numbers that stand at a place
-next-there : (s vs t : List ℕ) (p i : ℕ) → Most vs → i < length vs → drop p s ≡ written (drop i vs) ++ t → (total next : ℕ) → Added s p 1 total next
+pub next-there : (s vs t : List ℕ) (p i : ℕ) → Most vs → i < length vs → drop p s ≡ written (drop i vs) ++ t → (total next : ℕ) → Added s p 1 total next
     → (total ≡ getD vs i 0) × (drop next s ≡ written (drop (i + 1) vs) ++ t) × (total ≤ 65535)
 next-there s vs t p i m h b total next a =
     let v : ℕ = getD vs i 0 in
@@ -46,22 +46,22 @@ next-there s vs t p i m h b total next a =
     let x = sum-there s (v ∷ []) (written (drop (suc i) vs) ++ t) p (q .0, tt) e 1 total next refl a in
     (omega (arith, x .0), x .1 ∙ ap (λ (n : ℕ). written (drop n vs) ++ t) (sym (add-one i)), omega (arith, x .0, q .0))
 
-pub record Lines (s : List ℕ) (at many cycle sub : ℕ) (write : Bool) (to : ℕ) (out₀ out : List ℕ) (p q i : ℕ) (h : WordsHere s at many cycle sub write to out₀) : Type 0 where
+pub record Lines (s : List ℕ) (at many cycle sub to : ℕ) (out₀ out : List ℕ) (p q i : ℕ) (h : WordsHere s at many cycle sub to out₀) : Type 0 where
   pub below : i ≤ many
   pub long : length out ≡ length out₀
   pub bytes : drop p s ≡ written (drop i (h .words)) ++ h .rest
-  pub done : Wrote write to (wordLines cycle sub (take i (h .words))) out₀ out q
+  pub done : Wrote true to (wordLines cycle sub (take i (h .words))) out₀ out q
 
-module _ (s : List ℕ) (at many cycle sub : ℕ) (write : Bool) (to : ℕ) (out₀ : List ℕ) (h : WordsHere s at many cycle sub write to out₀) where
-  pub lines-start : Lines s at many cycle sub write to out₀ out₀ at to 0 h
-  lines-start = record { below = omega arith; long = refl; bytes = h .bytes; done = wrote-none write to out₀ }
+module _ (s : List ℕ) (at many cycle sub to : ℕ) (out₀ : List ℕ) (h : WordsHere s at many cycle sub to out₀) where
+  pub lines-start : Lines s at many cycle sub to out₀ out₀ at to 0 h
+  lines-start = record { below = omega arith; long = refl; bytes = h .bytes; done = wrote-none true to out₀ }
 
-  module _ (out : List ℕ) (p q i : ℕ) (inv : Lines s at many cycle sub write to out₀ out p q i h) where
-    pub lines-end : many ≤ i → LinesPut write s to (wordLines cycle sub (h .words)) (h .rest) out₀ out q p
+  module _ (out : List ℕ) (p q i : ℕ) (inv : Lines s at many cycle sub to out₀ out p q i h) where
+    pub lines-end : many ≤ i → LinesPut s to (wordLines cycle sub (h .words)) (h .rest) out₀ out q p
     lines-end l =
         let e : length (h .words) ≤ i = omega (arith, h .long) in
         let n : i ≡ length (h .words) = omega (arith, h .long, inv .below) in (
-          as-bytes write to (wordLines cycle sub (take i (h .words))) (wordLines cycle sub (h .words)) out₀ out q (ap (wordLines cycle sub) (take-all i (h .words) e)) (inv .done),
+          as-bytes true to (wordLines cycle sub (take i (h .words))) (wordLines cycle sub (h .words)) out₀ out q (ap (wordLines cycle sub) (take-all i (h .words) e)) (inv .done),
           inv .bytes ∙ ap (λ (x : ℕ). written (drop x (h .words)) ++ h .rest) n ∙ ap (λ (x : List ℕ). written x ++ h .rest) (drop-length (h .words)),
         )
 
@@ -89,17 +89,17 @@ module _ (s : List ℕ) (at many cycle sub : ℕ) (write : Bool) (to : ℕ) (out
             length-append (wordLines cycle sub (take (i + 1) (h .words))) (wordLines cycle sub (drop (i + 1) (h .words))),
           )
 
-      pub line-fits : Fits write q (length (wordLine cycle sub w)) out
-      line-fits = fits-part write to (length (wordLines cycle sub (h .words))) out₀ (h .fits) q (length (wordLines cycle sub (take i (h .words)))) (length (wordLine cycle sub w)) out (inv .done .next) within (inv .long)
+      pub line-fits : Fits true q (length (wordLine cycle sub w)) out
+      line-fits = fits-part true to (length (wordLines cycle sub (h .words))) out₀ (h .fits) q (length (wordLines cycle sub (take i (h .words)))) (length (wordLine cycle sub w)) out (inv .done .next) within (inv .long)
 
-      pub lines-more : (out' : List ℕ) (r : ℕ) → Wrote write q (wordLine cycle sub w) out out' r → length out' ≡ length out → Lines s at many cycle sub write to out₀ out' next r (i + 1) h
+      pub lines-more : (out' : List ℕ) (r : ℕ) → Wrote true q (wordLine cycle sub w) out out' r → length out' ≡ length out → Lines s at many cycle sub to out₀ out' next r (i + 1) h
       lines-more out' r x k =
           record {
             below = omega arith;
             long = k ∙ inv .long;
             bytes = here .1;
-            done = as-bytes write to (wordLines cycle sub (take i (h .words)) ++ wordLine cycle sub w) (wordLines cycle sub (take (i + 1) (h .words))) out₀ out' r (sym one-more)
-                (and-then write to (wordLines cycle sub (take i (h .words))) (wordLine cycle sub w) out₀ out out' q r (length (wordLines cycle sub (h .words))) (h .fits) (inv .done) x);
+            done = as-bytes true to (wordLines cycle sub (take i (h .words)) ++ wordLine cycle sub w) (wordLines cycle sub (take (i + 1) (h .words))) out₀ out' r (sym one-more)
+                (and-then true to (wordLines cycle sub (take i (h .words))) (wordLine cycle sub w) out₀ out out' q r (length (wordLines cycle sub (h .words))) (h .fits) (inv .done) x);
           }
 
 -- ---- the Subcycles of a cycle
@@ -127,18 +127,18 @@ sum-le [] (suc i) = omega arith
 sum-le (z ∷ zs) zero = omega arith
 sum-le (z ∷ zs) (suc i) = omega (arith, sum-le zs i)
 
-cut-cycle : (ws zs : List ℕ) → (length zs ≡ 0 → ⊥) → subcycles ws zs ≡ cutBy ws zs
+pub cut-cycle : (ws zs : List ℕ) → (length zs ≡ 0 → ⊥) → subcycles ws zs ≡ cutBy ws zs
 cut-cycle ws [] h = absurd (h refl)
 cut-cycle ws (z ∷ zs) h = refl
 
-pub record Subs (s : List ℕ) (at count size : ℕ) (write : Bool) (to : ℕ) (out₀ out : List ℕ) (p w q i : ℕ) (h : SplitHere s at count size) : Type 0 where
+pub record Subs (s : List ℕ) (at count size to : ℕ) (out₀ out : List ℕ) (p w q i : ℕ) (h : SplitHere s at count size) : Type 0 where
   pub below : i ≤ size
   pub long : length out ≡ length out₀
   pub splits-at : drop p s ≡ written (drop i (h .c .splits)) ++ h .rest
   pub words-at : drop w s ≡ written (drop (sum (take i (h .c .splits))) (h .c .words)) ++ (written (h .c .splits) ++ h .rest)
-  pub done : Wrote write to (subcycleLines size 0 (cutBy (h .c .words) (take i (h .c .splits)))) out₀ out q
+  pub done : Wrote true to (subcycleLines size 0 (cutBy (h .c .words) (take i (h .c .splits)))) out₀ out q
 
-module _ (s : List ℕ) (at count size : ℕ) (write : Bool) (to : ℕ) (out₀ : List ℕ) (h : SplitHere s at count size) (f : LinesFit write to (h .c) size out₀) where
+module _ (s : List ℕ) (at count size to : ℕ) (out₀ : List ℕ) (h : SplitHere s at count size) (f : Fits true to (length (linesOf size (h .c))) out₀) where
   ws : List ℕ
   ws = h .c .words
 
@@ -153,20 +153,19 @@ module _ (s : List ℕ) (at count size : ℕ) (write : Bool) (to : ℕ) (out₀ 
   unfolding ws zs
   is-cut = ap (subcycleLines size 0) (cut-cycle ws zs (λ e. omega (arith, many-splits, h .power, pow-pos (h .n))))
 
-  all-fit : Fits write to (length (subcycleLines size 0 (cutBy ws zs))) out₀
-  all-fit = subst (λ (x : List ℕ). Fits write to (length x) out₀) is-cut f
+  all-fit : Fits true to (length (subcycleLines size 0 (cutBy ws zs))) out₀
+  all-fit = subst (λ (x : List ℕ). Fits true to (length x) out₀) is-cut f
 
-  pub subs-start : (total next : ℕ) → Added s at count total next → Subs s at count size write to out₀ out₀ next at to 0 h
-  subs-start total next a =
-      record { below = omega arith; long = refl; splits-at = after-words s at count size h total next a; words-at = h .bytes; done = wrote-none write to out₀ }
+  pub subs-start : (splits : ℕ) → SplitsAt s splits (h .c) (h .rest) → Subs s at count size to out₀ out₀ splits at to 0 h
+  subs-start splits known = record { below = omega arith; long = refl; splits-at = known; words-at = h .bytes; done = wrote-none true to out₀ }
 
-  module _ (out : List ℕ) (p w q i : ℕ) (inv : Subs s at count size write to out₀ out p w q i h) where
-    pub subs-end : size ≤ i → LinesPut write s to (linesOf size (h .c)) (h .rest) out₀ out q p
+  module _ (out : List ℕ) (p w q i : ℕ) (inv : Subs s at count size to out₀ out p w q i h) where
+    pub subs-end : size ≤ i → LinesPut s to (linesOf size (h .c)) (h .rest) out₀ out q p
     unfolding ws zs
     subs-end l =
         let e : length zs ≤ i = omega (arith, many-splits) in
         let n : i ≡ length zs = omega (arith, many-splits, inv .below) in (
-          as-bytes write to (subcycleLines size 0 (cutBy ws (take i zs))) (linesOf size (h .c)) out₀ out q (ap (λ (x : List ℕ). subcycleLines size 0 (cutBy ws x)) (take-all i zs e) ∙ sym is-cut) (inv .done),
+          as-bytes true to (subcycleLines size 0 (cutBy ws (take i zs))) (linesOf size (h .c)) out₀ out q (ap (λ (x : List ℕ). subcycleLines size 0 (cutBy ws x)) (take-all i zs e) ∙ sym is-cut) (inv .done),
           inv .splits-at ∙ ap (λ (x : ℕ). written (drop x zs) ++ h .rest) n ∙ ap (λ (x : List ℕ). written x ++ h .rest) (drop-length zs),
         )
 
@@ -229,7 +228,7 @@ module _ (s : List ℕ) (at count size : ℕ) (write : Bool) (to : ℕ) (out₀ 
       pub small : (size < 10000) × (i < 10000)
       small = (omega (arith, size-small s at count size h), omega (arith, size-small s at count size h))
 
-      pub part-here : WordsHere s w z size i write q out
+      pub part-here : WordsHere s w z size i q out
       unfolding part from ws zs
       part-here =
           record {
@@ -238,11 +237,11 @@ module _ (s : List ℕ) (at count size : ℕ) (write : Bool) (to : ℕ) (out₀ 
             long = part-long;
             most = part-most;
             bytes = inv .words-at ∙ cut-written z (drop from ws) (written zs ++ h .rest);
-            fits = fits-part write to (length (subcycleLines size 0 (cutBy ws zs))) out₀ all-fit q (length (subcycleLines size 0 (cutBy ws (take i zs)))) (length (wordLines size i part)) out (inv .done .next) room (inv .long);
+            fits = fits-part true to (length (subcycleLines size 0 (cutBy ws zs))) out₀ all-fit q (length (subcycleLines size 0 (cutBy ws (take i zs)))) (length (wordLines size i part)) out (inv .done .next) room (inv .long);
           }
 
-      pub subs-more : (out' : List ℕ) (r w' : ℕ) → LinesPut write s q (wordLines size i (part-here .words)) (part-here .rest) out out' r w' → length out' ≡ length out
-          → Subs s at count size write to out₀ out' next w' r (i + 1) h
+      pub subs-more : (out' : List ℕ) (r w' : ℕ) → LinesPut s q (wordLines size i (part-here .words)) (part-here .rest) out out' r w' → length out' ≡ length out
+          → Subs s at count size to out₀ out' next w' r (i + 1) h
       unfolding part from ws zs part-here
       subs-more out' r w' x k =
           record {
@@ -251,17 +250,23 @@ module _ (s : List ℕ) (at count size : ℕ) (write : Bool) (to : ℕ) (out₀ 
             splits-at = split-there .1;
             words-at = x .1 ∙ ap (λ (y : List ℕ). written y ++ (written zs ++ h .rest)) (drop-drop z from ws)
                 ∙ ap (λ (n : ℕ). written (drop n ws) ++ (written zs ++ h .rest)) (sym from-next);
-            done = as-bytes write to (subcycleLines size 0 (cutBy ws (take i zs)) ++ wordLines size i part) (subcycleLines size 0 (cutBy ws (take (i + 1) zs))) out₀ out' r (sym next-part)
-                (and-then write to (subcycleLines size 0 (cutBy ws (take i zs))) (wordLines size i part) out₀ out out' q r (length (subcycleLines size 0 (cutBy ws zs))) all-fit (inv .done) (x .0));
+            done = as-bytes true to (subcycleLines size 0 (cutBy ws (take i zs)) ++ wordLines size i part) (subcycleLines size 0 (cutBy ws (take (i + 1) zs))) out₀ out' r (sym next-part)
+                (and-then true to (subcycleLines size 0 (cutBy ws (take i zs))) (wordLines size i part) out₀ out out' q r (length (subcycleLines size 0 (cutBy ws zs))) all-fit (inv .done) (x .0));
           }
 
 -- ---- any cycle
-module _ (s : List ℕ) (at size : ℕ) (write : Bool) (to : ℕ) (out : List ℕ) (h : CycleHere s at size) (f : LinesFit write to (h .c) size out) (count p : ℕ) (a : Added s at 1 count p) where
-  module _ (one : size ≡ 1) where
-    only-lines : linesOf size (h .c) ≡ wordLines size 0 (h .c .words)
-    only-lines = ap (λ (x : List ℕ). subcycleLines size 0 (subcycles (h .c .words) x)) (no-split s at size h count p a one) ∙ append-nil (wordLines size 0 (h .c .words))
+module _ (s : List ℕ) (at size : ℕ) (h : CycleHere s at size) (count p : ℕ) (a : Added s at 1 count p) where
+  pub only-lines : size ≡ 1 → linesOf size (h .c) ≡ wordLines size 0 (h .c .words)
+  only-lines one = ap (λ (x : List ℕ). subcycleLines size 0 (subcycles (h .c .words) x)) (no-split s at size h count p a one) ∙ append-nil (wordLines size 0 (h .c .words))
 
-    pub all-here : WordsHere s p count size 0 write to out
+  pub no-lines : count ≡ 0 → linesOf size (h .c) ≡ []
+  no-lines z =
+      let w = no-word s at size h count p a z in
+      ap (λ (x : List ℕ). subcycleLines size 0 (subcycles x (h .c .splits))) (w .0) ∙ ap (λ (x : List ℕ). subcycleLines size 0 (subcycles [] x)) (w .1)
+
+module _ (s : List ℕ) (at size to : ℕ) (out : List ℕ) (h : CycleHere s at size) (f : Fits true to (length (linesOf size (h .c))) out) (count p : ℕ) (a : Added s at 1 count p) where
+  module _ (one : size ≡ 1) where
+    pub all-here : WordsHere s p count size 0 to out
     all-here =
         record {
           words = h .c .words;
@@ -269,15 +274,12 @@ module _ (s : List ℕ) (at size : ℕ) (write : Bool) (to : ℕ) (out : List �
           long = sym (count-there s at size h count p a .0);
           most = words-most (h .c .words) (h .obeys .words);
           bytes = only-words s at size h count p a one;
-          fits = subst (λ (x : List ℕ). Fits write to (length x) out) only-lines f;
+          fits = subst (λ (x : List ℕ). Fits true to (length x) out) (only-lines s at size h count p a one) f;
         }
 
-    pub all-put : (out' : List ℕ) (r next : ℕ) → LinesPut write s to (wordLines size 0 (all-here .words)) (all-here .rest) out out' r next → LinesPut write s to (linesOf size (h .c)) (h .rest) out out' r next
+    pub all-put : (out' : List ℕ) (r next : ℕ) → LinesPut s to (wordLines size 0 (all-here .words)) (all-here .rest) out out' r next → LinesPut s to (linesOf size (h .c)) (h .rest) out out' r next
     unfolding all-here
-    all-put out' r next x = (as-bytes write to (wordLines size 0 (h .c .words)) (linesOf size (h .c)) out out' r (sym only-lines) (x .0), x .1)
+    all-put out' r next x = (as-bytes true to (wordLines size 0 (h .c .words)) (linesOf size (h .c)) out out' r (sym (only-lines s at size h count p a one)) (x .0), x .1)
 
-  pub none-put : count ≡ 0 → LinesPut write s to (linesOf size (h .c)) (h .rest) out out to p
-  none-put z =
-      let w = no-word s at size h count p a z in
-      let e : linesOf size (h .c) ≡ [] = ap (λ (x : List ℕ). subcycleLines size 0 (subcycles x (h .c .splits))) (w .0) ∙ ap (λ (x : List ℕ). subcycleLines size 0 (subcycles [] x)) (w .1) in
-      (as-bytes write to [] (linesOf size (h .c)) out out to (sym e) (wrote-none write to out), nothing-here s at size h count p a z)
+  pub none-put : count ≡ 0 → LinesPut s to (linesOf size (h .c)) (h .rest) out out to p
+  none-put z = (as-bytes true to [] (linesOf size (h .c)) out out to (sym (no-lines s at size h count p a z)) (wrote-none true to out), nothing-here s at size h count p a z)

@@ -17,7 +17,6 @@ use Rattle.lists.specs.declared.ListCheck.{ListCheck}
 use Rattle.lists.specs.declared.ListCheck.the-variants.{Accepted, Refused}
 use Rattle.lists.specs.Values.{Cycle, PeriodicList, cyclesOf, wordsOf}
 use Rattle.lists.specs.Reading.{Read, denied, took}
-use Rattle.lists.specs.Sends.{cutBy, subcycles}
 use Rattle.lists.specs.Accepts.{accepted}
 use Rattle.lists.specs.Answers.{toldCheck, toldRead}
 use Rattle.list_laws.specs.Written.{file, CyclesObey, Obeys}
@@ -25,52 +24,18 @@ use Rattle.lists.proofs.ListLaws.{cycles-most}
 use Rattle.periods.proofs.PeriodLaws.{told-no}
 use Rattle.list_laws.proofs.Acceptance.{accepted-obeys, obeys-accepted, one-list}
 use Rattle.periods.specs.Inside.{IsList}
-use Rattle.list_text.specs.Text.{digit, two, decimal, space, newline, field, headerLine, wordLine, refusedLine, wordLines, subcycleLines, cycleLines, textOf, textBy}
-use Rattle.list_text.specs.Inside.{wroteIf, Wrote, RoomIf, Fits, CyclesHere, CyclesWrote, ListHere, TextFits, TextWrote}
-use Rattle.list_text.proofs.WroteLaws.{fits-part, and-then, as-bytes, two-small, decimal-small, decimal-large, two-few, decimal-few, field-length, header-length, line-length, refused-length}
+use Rattle.list_text.specs.Text.{space, newline, field, headerLine, refusedLine, cycleLines, textOf, textBy}
+use Rattle.list_text.specs.Inside.{wroteIf, Wrote, RoomIf, Fits, SplitsKnown, CyclesHere, CyclesWrote, ListHere, TextFits, TextWrote}
+use Rattle.list_text.proofs.WroteLaws.{fits-part, and-then, as-bytes, decimal-few, field-length, header-length, refused-length}
+use Rattle.list_text.proofs.LengthLaws.{decimal-one, decimal-three, cycles-few}
 
 -- ---- how long the text can be
-line-few : (cycle sub w : ℕ) → length (wordLine cycle sub w) ≤ 15
-line-few cycle sub w = omega (arith, line-length cycle sub w, field-length cycle space, field-length sub newline, decimal-few cycle, decimal-few sub)
-
-lines-few : (cycle sub : ℕ) (ws : List ℕ) → length (wordLines cycle sub ws) ≤ 15 * length ws
-lines-few cycle sub [] = omega arith
-lines-few cycle sub (w ∷ ws) = omega (arith, length-append (wordLine cycle sub w) (wordLines cycle sub ws), line-few cycle sub w, lines-few cycle sub ws)
-
-cut-few : (cycle sub : ℕ) (ws zs : List ℕ) → length (subcycleLines cycle sub (cutBy ws zs)) ≤ 15 * length ws
-cut-few cycle sub ws [] = omega arith
-cut-few cycle sub ws (z ∷ zs) =
-    omega (arith, length-append (wordLines cycle sub (take z ws)) (subcycleLines cycle (suc sub) (cutBy (drop z ws) zs)), lines-few cycle sub (take z ws), cut-few cycle (suc sub) (drop z ws) zs, length-take z ws, length-drop z ws)
-
-cycle-few : (cycle : ℕ) (ws zs : List ℕ) → length (subcycleLines cycle 0 (subcycles ws zs)) ≤ 15 * length ws
-cycle-few cycle ws [] = omega (arith, length-append (wordLines cycle 0 ws) [], lines-few cycle 0 ws)
-cycle-few cycle ws (z ∷ zs) = cut-few cycle 0 ws (z ∷ zs)
-
-cycles-few : (n : ℕ) (cs : List Cycle) → length (cycleLines n cs) ≤ 15 * length (wordsOf cs)
-cycles-few n [] = omega arith
-cycles-few n (c ∷ cs) =
-    omega (arith, length-append (subcycleLines (2 ^ n) 0 (subcycles (c .words) (c .splits))) (cycleLines (suc n) cs), cycle-few (2 ^ n) (c .words) (c .splits), cycles-few (suc n) cs, length-append (c .words) (wordsOf cs))
-
 words-few : (n : ℕ) (cs : List Cycle) → CyclesObey n cs → length (wordsOf cs) ≤ 256 * length cs
 words-few n [] o = omega arith
 words-few n (c ∷ cs) o = omega (arith, length-append (c .words) (wordsOf cs), o .0 .count, words-few (suc n) cs (o .1))
 
 pub all-words-few : (l : PeriodicList) → Obeys l → length (wordsOf (l .cycles)) ≤ 2816
 all-words-few l o = omega (arith, words-few 0 (l .cycles) (o .cycles), o .many, cycles-most (l .head .ms))
-
-decimal-one : (n : ℕ) → n < 10 → length (decimal n) ≡ 1
-decimal-one n h = let a : n < 100 = omega arith in ap length (decimal-small n a ∙ two-small n h)
-
-decimal-three : (n : ℕ) → n < 1000 → length (decimal n) ≤ 3
-unfolding decimal
-decimal-three n h = go (ltb n 100)
-  where
-    top : length (two (n / 100)) ≡ 1
-    top = ap length (two-small (n / 100) (omega arith))
-
-    go : (t : Bool) → length (cond t (two n) ((two (n / 100) ++ digit (n / 10 % 10) ∷ []) ++ digit (n % 10) ∷ [])) ≤ 3
-    go true = omega (arith, two-few n)
-    go false = omega (arith, top, length-append (two (n / 100)) (digit (n / 10 % 10) ∷ []), length-append (two (n / 100) ++ digit (n / 10 % 10) ∷ []) (digit (n % 10) ∷ []))
 
 pub text-by-words : (l : PeriodicList) → Obeys l → length (textOf (took l [])) ≤ 15 * length (wordsOf (l .cycles)) + 16
 text-by-words l o =
@@ -99,56 +64,64 @@ pub refused-few : (n : ℕ) → length (refusedLine n) ≤ 13
 refused-few n = omega (arith, refused-length n, field-length n newline, decimal-few n)
 
 -- ---- a list's text
-module _ (s : List ℕ) (h : Header) (words : ℕ) (k : ListHere s h words) (write : Bool) (out : List ℕ) (f : TextFits write s out) where
+pub words-small : (s : List ℕ) (h : Header) (words : ℕ) → ListHere s h words → words ≤ 2816
+words-small s h words k = omega (arith, k .count, all-words-few (k .known .l) (k .known .obeys))
+
+header-same : (s : List ℕ) (h : Header) (words : ℕ) (k : ListHere s h words)
+    → headerLine (h .ms) (h .gap) (h .reserve) words ≡ headerLine (k .known .l .head .ms) (k .known .l .head .gap) (k .known .l .head .reserve) (length (wordsOf (k .known .l .cycles)))
+header-same s h words k =
+    let l : PeriodicList = k .known .l in
+    ap (λ (x : ℕ). headerLine x (h .gap) (h .reserve) words) (k .known .same) ∙ ap (λ (x : ℕ). headerLine (l .head .ms) x (h .reserve) words) (k .gap)
+    ∙ ap (λ (x : ℕ). headerLine (l .head .ms) (l .head .gap) x words) (k .reserve) ∙ ap (headerLine (l .head .ms) (l .head .gap) (l .head .reserve)) (k .count)
+
+long-is : (s : List ℕ) (h : Header) (words : ℕ) (k : ListHere s h words)
+    → length (textOf (took (k .known .l) [])) ≡ length (headerLine (h .ms) (h .gap) (h .reserve) words) + length (cycleLines 0 (k .known .l .cycles))
+long-is s h words k =
+    let l : PeriodicList = k .known .l in
+    length-append (headerLine (l .head .ms) (l .head .gap) (l .head .reserve) (length (wordsOf (l .cycles)))) (cycleLines 0 (l .cycles))
+    ∙ ap (λ (x : List ℕ). length x + length (cycleLines 0 (l .cycles))) (sym (header-same s h words k))
+
+module _ (s : List ℕ) (h : Header) (words : ℕ) (k : ListHere s h words) (splits : List ℕ) (u : SplitsKnown s (h .ms) splits) (out : List ℕ) (f : TextFits s out) where
   l : PeriodicList
   l = k .known .l
 
-  same-header : headerLine (h .ms) (h .gap) (h .reserve) words ≡ headerLine (l .head .ms) (l .head .gap) (l .head .reserve) (length (wordsOf (l .cycles)))
-  unfolding l
-  same-header =
-      ap (λ (x : ℕ). headerLine x (h .gap) (h .reserve) words) (k .known .same) ∙ ap (λ (x : ℕ). headerLine (l .head .ms) x (h .reserve) words) (k .gap)
-      ∙ ap (λ (x : ℕ). headerLine (l .head .ms) (l .head .gap) x words) (k .reserve) ∙ ap (headerLine (l .head .ms) (l .head .gap) (l .head .reserve)) (k .count)
-
-  all-fits : Fits write 0 (length (textOf (took l []))) out
+  all-fits : Fits true 0 (length (textOf (took l []))) out
   unfolding l
   all-fits = f (k .known .l) (k .known .obeys) (k .known .written-so)
 
   text-length : length (textOf (took l [])) ≡ length (headerLine (h .ms) (h .gap) (h .reserve) words) + length (cycleLines 0 (l .cycles))
   unfolding l
-  text-length = length-append (headerLine (l .head .ms) (l .head .gap) (l .head .reserve) (length (wordsOf (l .cycles)))) (cycleLines 0 (l .cycles))
-      ∙ ap (λ (x : List ℕ). length x + length (cycleLines 0 (l .cycles))) (sym same-header)
+  text-length = long-is s h words k
 
-  pub words-small : words ≤ 2816
-  words-small = omega (arith, k .count, all-words-few (k .known .l) (k .known .obeys))
-
-  pub header-asked : (h .ms < 10000) × (h .gap < 10000) × (h .reserve < 10000) × (words < 10000) × Fits write 0 (length (headerLine (h .ms) (h .gap) (h .reserve) words)) out
+  pub header-asked : (h .ms < 10000) × (h .gap < 10000) × (h .reserve < 10000) × (words < 10000) × Fits true 0 (length (headerLine (h .ms) (h .gap) (h .reserve) words)) out
   unfolding l
   header-asked =
       let o = k .known .obeys in (
         omega (arith, k .known .same, o .ms .1),
         omega (arith, k .gap, o .gap .1),
         omega (arith, k .reserve, o .reserve .1, o .ms .1),
-        omega (arith, words-small),
-        fits-part write 0 (length (textOf (took l []))) out all-fits 0 0 (length (headerLine (h .ms) (h .gap) (h .reserve) words)) out (omega arith) (omega (arith, text-length)) refl,
+        omega (arith, words-small s h words k),
+        fits-part true 0 (length (textOf (took l []))) out all-fits 0 0 (length (headerLine (h .ms) (h .gap) (h .reserve) words)) out (omega arith) (omega (arith, text-length)) refl,
       )
 
-  module _ (out₁ : List ℕ) (a : ℕ) (w : Wrote write 0 (headerLine (h .ms) (h .gap) (h .reserve) words) out out₁ a) (e : length out₁ ≡ length out) where
-    pub cycles-asked : CyclesHere s (h .ms) write a out₁
+  module _ (out₁ : List ℕ) (a : ℕ) (w : Wrote true 0 (headerLine (h .ms) (h .gap) (h .reserve) words) out out₁ a) (e : length out₁ ≡ length out) where
+    pub cycles-asked : CyclesHere s (h .ms) splits a out₁
     unfolding l
     cycles-asked =
         record {
           known = k .known;
-          fits = fits-part write 0 (length (textOf (took l []))) out all-fits a (length (headerLine (h .ms) (h .gap) (h .reserve) words)) (length (cycleLines 0 (l .cycles))) out₁ (w .next) (omega (arith, text-length)) e;
+          places = u;
+          fits = fits-part true 0 (length (textOf (took l []))) out all-fits a (length (headerLine (h .ms) (h .gap) (h .reserve) words)) (length (cycleLines 0 (l .cycles))) out₁ (w .next) (omega (arith, text-length)) e;
         }
 
-    pub text-done : (out₂ : List ℕ) (r : ℕ) → CyclesWrote write s a out₁ out₂ r → TextWrote write s out out₂ r
+    pub text-done : (out₂ : List ℕ) (r : ℕ) → CyclesWrote s a out₁ out₂ r → TextWrote s out out₂ r
     unfolding l
     text-done out₂ r c m o q =
         let x : l ≡ m = one-list l m (k .known .obeys) o (k .known .written-so ∙ sym q) in
-        let y : Wrote write 0 (headerLine (h .ms) (h .gap) (h .reserve) words ++ cycleLines 0 (l .cycles)) out out₂ r =
-        and-then write 0 (headerLine (h .ms) (h .gap) (h .reserve) words) (cycleLines 0 (l .cycles)) out out₁ out₂ a r (length (textOf (took l []))) all-fits w (c l (k .known .obeys) (k .known .written-so)) in
-        subst (λ (z : PeriodicList). Wrote write 0 (textOf (took z [])) out out₂ r) x
-        (as-bytes write 0 (headerLine (h .ms) (h .gap) (h .reserve) words ++ cycleLines 0 (l .cycles)) (textOf (took l [])) out out₂ r (ap (λ (u : List ℕ). u ++ cycleLines 0 (l .cycles)) same-header) y)
+        let y : Wrote true 0 (headerLine (h .ms) (h .gap) (h .reserve) words ++ cycleLines 0 (l .cycles)) out out₂ r =
+        and-then true 0 (headerLine (h .ms) (h .gap) (h .reserve) words) (cycleLines 0 (l .cycles)) out out₁ out₂ a r (length (textOf (took l []))) all-fits w (c l (k .known .obeys) (k .known .written-so)) in
+        subst (λ (z : PeriodicList). Wrote true 0 (textOf (took z [])) out out₂ r) x
+        (as-bytes true 0 (headerLine (h .ms) (h .gap) (h .reserve) words ++ cycleLines 0 (l .cycles)) (textOf (took l [])) out out₂ r (ap (λ (u : List ℕ). u ++ cycleLines 0 (l .cycles)) (header-same s h words k)) y)
 
 -- ---- asking for the text
 abbrev pub Answer : List ℕ → List ℕ → Told → List ℕ → Type 0
@@ -194,36 +167,29 @@ refused-counts n out = counts (length (refusedLine n)) out (omega (arith, refuse
 pub refused-writes : (n : ℕ) (out out' : List ℕ) (k : ℕ) → Wrote false 0 (refusedLine n) out out' k → k ≤ length out' → Fits true 0 (length (refusedLine n)) out'
 refused-writes n out out' k w h = writes (length (refusedLine n)) out' (omega (arith, refused-few n)) (omega (arith, w .next))
 
-pub list-counts : (s out : List ℕ) → TextFits false s out
-list-counts s out l o q = counts (length (textOf (took l []))) out (omega (arith, text-few l o))
+-- after the list was measured
+module _ (s : List ℕ) (h : Header) (words : ℕ) (k : ListHere s h words) (header lines : ℕ) (a : header ≡ length (headerLine (h .ms) (h .gap) (h .reserve) words)) (b : (l : PeriodicList) → Obeys l → file l ≡ s → lines ≡ length (cycleLines 0 (l .cycles))) where
+  accepted-is : accepted s ≡ took (k .known .l) []
+  accepted-is = subst (λ (x : List ℕ). accepted x ≡ took (k .known .l) []) (k .known .written-so) (obeys-accepted (k .known .l) (k .known .obeys))
 
-module _ (s : List ℕ) (h : Header) (words : ℕ) (k : ListHere s h words) (out out₁ : List ℕ) (m : ℕ) (w : TextWrote false s out out₁ m) where
-  pub the-count : m ≡ length (textOf (took (k .known .l) []))
-  the-count = omega (arith, w (k .known .l) (k .known .obeys) (k .known .written-so) .next)
+  whole : header + lines ≡ length (textOf (took (k .known .l) []))
+  whole = omega (arith, long-is s h words k, b (k .known .l) (k .known .obeys) (k .known .written-so))
 
-  pub list-writes : m ≤ length out₁ → TextFits true s out₁
-  list-writes l p o q =
-      let x : k .known .l ≡ p = one-list (k .known .l) p (k .known .obeys) o (k .known .written-so ∙ sym q) in
-      writes (length (textOf (took p []))) out₁ (omega (arith, text-few p o)) (omega (arith, the-count, ap (λ (z : PeriodicList). length (textOf (took z []))) x))
+  pub whole-small : header + lines ≤ 42256
+  whole-small = omega (arith, whole, text-few (k .known .l) (k .known .obeys))
 
-pub is-accepted : (s : List ℕ) (h : Header) (words : ℕ) (k : ListHere s h words) → accepted s ≡ took (k .known .l) []
-is-accepted s h words k = subst (λ (x : List ℕ). accepted x ≡ took (k .known .l) []) (k .known .written-so) (obeys-accepted (k .known .l) (k .known .obeys))
+  module _ (out : List ℕ) where
+    pub list-short : length out < header + lines → Answer s out (refusal 4) out
+    list-short = short s out (took (k .known .l) []) accepted-is (header + lines) whole
 
--- where there is room for so many words at the most
-module _ (s : List ℕ) (h : Header) (words : ℕ) (k : ListHere s h words) where
-  pub words-many : words ≤ 2816
-  words-many = omega (arith, k .count, all-words-few (k .known .l) (k .known .obeys))
+    module _ (r : header + lines ≤ length out) where
+      pub list-fits : TextFits s out
+      list-fits p o q =
+          let x : k .known .l ≡ p = one-list (k .known .l) p (k .known .obeys) o (k .known .written-so ∙ sym q) in
+          writes (length (textOf (took p []))) out (omega (arith, text-few p o)) (omega (arith, whole, ap (λ (z : PeriodicList). length (textOf (took z []))) x))
 
-  module _ (out : List ℕ) (b : 15 * words + 16 ≤ length out) where
-    pub surely-writes : TextFits true s out
-    surely-writes p o q =
-        let x : k .known .l ≡ p = one-list (k .known .l) p (k .known .obeys) o (k .known .written-so ∙ sym q) in
-        writes (length (textOf (took p []))) out (omega (arith, text-few p o)) (omega (arith, text-by-words p o, k .count, ap (λ (z : PeriodicList). length (wordsOf (z .cycles))) x))
-
-    pub written-at-once : (m : ℕ) (out' : List ℕ) → TextWrote true s out out' m → Answer s out (gives (m ∷ [])) out'
-    written-at-once m out' w =
-        let l : PeriodicList = k .known .l in
-        enough s out (took l []) (is-accepted s h words k) (length (textOf (took l []))) refl (omega (arith, text-by-words l (k .known .obeys), k .count)) m out' (w l (k .known .obeys) (k .known .written-so))
+      pub list-written : (m : ℕ) (out' : List ℕ) → TextWrote s out out' m → Answer s out (gives (m ∷ [])) out'
+      list-written m out' w = enough s out (took (k .known .l) []) accepted-is (header + lines) whole r m out' (w (k .known .l) (k .known .obeys) (k .known .written-so))
 
 -- ---- what the check of the list tells
 record Same (r : Read PeriodicList) (h : Header) (n : ℕ) : Type 0 where

@@ -1,7 +1,10 @@
 // The list program's text.
+mod lengths;
 mod lines;
 mod numerals;
 
+use crate::lengths::header_length;
+use crate::lengths::measure_cycles;
 use crate::lines::put_list;
 use crate::numerals::put_refused;
 use lists::Header;
@@ -46,16 +49,13 @@ fn good_text(list: &[u8], head: Header, words: usize, out: &mut [u8]) -> Text
     ensures { λ r. ⌜ (toldText r ≡ textBy (now (list .entry)) (length (now (out .entry))) refusal (λ t. gives (length t ∷ [])))
         × (now (out .exit) ≡ textBy (now (list .entry)) (length (now (out .entry))) (λ m. now (out .entry)) (λ t. t ++ drop (length t) (now (out .entry)))) ⌝ }
 {
-    // No line of a word is longer than 15 bytes, nor the header than 16.
-    if 15 * words + 16 <= out.len() {
-        let all = put_list(list, head, words, out, true);
-        return Text::Bytes(all);
-    }
-    let k = put_list(list, head, words, out, false);
-    if out.len() < k {
+    let mut splits = [0usize; 11];
+    let lines = measure_cycles(list, head.ms, &mut splits);
+    let header = header_length(head, words as u16);
+    if out.len() < header + lines {
         return Text::Refused(Refusal::TooShort);
     }
-    let written = put_list(list, head, words, out, true);
+    let written = put_list(list, head, words, &splits, out);
     Text::Bytes(written)
 }
 

@@ -1,4 +1,4 @@
-// The lines of words, Subcycle by Subcycle and cycle by cycle, counted or written.
+// The lines of words, Subcycle by Subcycle and cycle by cycle.
 use crate::numerals::put_header;
 use crate::numerals::put_line;
 use lists::Header;
@@ -6,11 +6,9 @@ use lists::cycles_of;
 use numbers::sum_numbers;
 ghost use mathlib.Core.Path.{_≡_};
 ghost use mathlib.Core.List.{List};
-ghost use mathlib.Core.Bool.{Bool};
 ghost use Prim.Native.Nat.{ℕ, _<_};
-ghost use Rattle.periods.specs.Inside.{CycleHere, SplitHere};
 ghost use Rattle.list_text.specs.Text.{wordLines};
-ghost use Rattle.list_text.specs.Inside.{WordsHere, LinesPut, LinesFit, linesOf, CyclesHere, CyclesWrote, ListHere, TextFits, TextWrote};
+ghost use Rattle.list_text.specs.Inside.{WordsHere, LinesPut, linesOf, SplitFits, CycleFits, SplitsKnown, CyclesHere, CyclesWrote, ListHere, TextFits, TextWrote};
 
 // The places after what was read of the list, and after what was written.
 struct Places {
@@ -27,47 +25,36 @@ fn put_lines(
     sub: u16,
     out: &mut [u8],
     to: usize,
-    write: bool,
 ) -> Places
-    requires { ⌜ (cycle < 10000) × (sub < 10000) × WordsHere (now list) at many cycle sub write to (now out) ⌝ }
-    ensures { λ r. ⌜ ((h : WordsHere (now (list .entry)) at many cycle sub write to (now (out .entry)))
-        → LinesPut write (now (list .entry)) to (wordLines cycle sub (h .words)) (h .rest) (now (out .entry)) (now (out .exit)) (r .to) (r .next)) ⌝ }
+    requires { ⌜ (cycle < 10000) × (sub < 10000) × WordsHere (now list) at many cycle sub to (now out) ⌝ }
+    ensures { λ r. ⌜ ((h : WordsHere (now (list .entry)) at many cycle sub to (now (out .entry)))
+        → LinesPut (now (list .entry)) to (wordLines cycle sub (h .words)) (h .rest) (now (out .entry)) (now (out .exit)) (r .to) (r .next)) ⌝ }
 {
     let mut p = at;
     let mut q = to;
     let mut i: usize = 0;
     while i < many {
         let w = sum_numbers(list, p, 1);
-        q = put_line(out, q, cycle, sub, w.total as u16, write);
+        q = put_line(out, q, cycle, sub, w.total as u16, true);
         p = w.next;
         i += 1;
     }
     Places { next: p, to: q }
 }
 
-// The lines of a cycle with split numbers, whose words start at a place: a second place walks the words again while the
-// split numbers are read.
-fn put_split(
-    list: &[u8],
-    at: usize,
-    count: u16,
-    size: u16,
-    out: &mut [u8],
-    to: usize,
-    write: bool,
-) -> Places
-    requires { ⌜ ((h : SplitHere (now list) at count size) × LinesFit write to (h .c) size (now out)) ⌝ }
-    ensures { λ r. ⌜ ((h : SplitHere (now (list .entry)) at count size) → LinesFit write to (h .c) size (now (out .entry))
-        → LinesPut write (now (list .entry)) to (linesOf size (h .c)) (h .rest) (now (out .entry)) (now (out .exit)) (r .to) (r .next)) ⌝ }
+// The lines of a cycle with split numbers: its words start at one place, its split numbers at another.
+fn put_split(list: &[u8], at: usize, splits: usize, size: u16, out: &mut [u8], to: usize) -> Places
+    requires { ⌜ SplitFits (now list) at splits size to (now out) ⌝ }
+    ensures { λ r. ⌜ ((k : SplitFits (now (list .entry)) at splits size to (now (out .entry)))
+        → LinesPut (now (list .entry)) to (linesOf size (k .here .c)) (k .here .rest) (now (out .entry)) (now (out .exit)) (r .to) (r .next)) ⌝ }
 {
-    let words = sum_numbers(list, at, count);
-    let mut p = words.next;
+    let mut p = splits;
     let mut w = at;
     let mut q = to;
     let mut i: u16 = 0;
     while i < size {
         let z = sum_numbers(list, p, 1);
-        let l = put_lines(list, w, z.total, size, i, out, q, write);
+        let l = put_lines(list, w, z.total, size, i, out, q);
         w = l.next;
         q = l.to;
         p = z.next;
@@ -76,27 +63,27 @@ fn put_split(
     Places { next: p, to: q }
 }
 
-// The lines of the cycle at a place, with so many Subcycles.
-fn put_cycle(list: &[u8], at: usize, size: u16, out: &mut [u8], to: usize, write: bool) -> Places
-    requires { ⌜ ((h : CycleHere (now list) at size) × LinesFit write to (h .c) size (now out)) ⌝ }
-    ensures { λ r. ⌜ ((h : CycleHere (now (list .entry)) at size) → LinesFit write to (h .c) size (now (out .entry))
-        → LinesPut write (now (list .entry)) to (linesOf size (h .c)) (h .rest) (now (out .entry)) (now (out .exit)) (r .to) (r .next)) ⌝ }
+// The lines of the cycle at a place, with so many Subcycles and its split numbers at another place.
+fn put_cycle(list: &[u8], at: usize, splits: usize, size: u16, out: &mut [u8], to: usize) -> Places
+    requires { ⌜ CycleFits (now list) at splits size to (now out) ⌝ }
+    ensures { λ r. ⌜ ((k : CycleFits (now (list .entry)) at splits size to (now (out .entry)))
+        → LinesPut (now (list .entry)) to (linesOf size (k .here .c)) (k .here .rest) (now (out .entry)) (now (out .exit)) (r .to) (r .next)) ⌝ }
 {
     let c = sum_numbers(list, at, 1);
     let count = c.total;
     if size == 1 {
-        return put_lines(list, c.next, count, size, 0, out, to, write);
+        return put_lines(list, c.next, count, size, 0, out, to);
     }
     if count == 0 {
         return Places { next: c.next, to };
     }
-    put_split(list, c.next, count as u16, size, out, to, write)
+    put_split(list, c.next, splits, size, out, to)
 }
 
-// The lines of all words of an accepted list.
-fn put_cycles(list: &[u8], ms: u16, out: &mut [u8], at: usize, write: bool) -> usize
-    requires { ⌜ CyclesHere (now list) ms write at (now out) ⌝ }
-    ensures { λ r. ⌜ CyclesWrote write (now (list .entry)) at (now (out .entry)) (now (out .exit)) r ⌝ }
+// The lines of all words of an accepted list, its split numbers at these places.
+fn put_cycles(list: &[u8], ms: u16, splits: &[usize], out: &mut [u8], at: usize) -> usize
+    requires { ⌜ CyclesHere (now list) ms (now splits) at (now out) ⌝ }
+    ensures { λ r. ⌜ CyclesWrote (now (list .entry)) at (now (out .entry)) (now (out .exit)) r ⌝ }
 {
     let cycles = cycles_of(ms);
     let header = sum_numbers(list, 0, 4);
@@ -105,7 +92,7 @@ fn put_cycles(list: &[u8], ms: u16, out: &mut [u8], at: usize, write: bool) -> u
     let mut n: usize = 0;
     let mut size: u16 = 1;
     while n < cycles {
-        let c = put_cycle(list, p, size, out, q, write);
+        let c = put_cycle(list, p, splits[n], size, out, q);
         p = c.next;
         q = c.to;
         n += 1;
@@ -114,18 +101,18 @@ fn put_cycles(list: &[u8], ms: u16, out: &mut [u8], at: usize, write: bool) -> u
     q
 }
 
-// The text of an accepted list with this header and so many words.
+// The text of an accepted list with this header and so many words, its split numbers at these places.
 pub(crate) fn put_list(
     list: &[u8],
     head: Header,
     words: usize,
+    splits: &[usize],
     out: &mut [u8],
-    write: bool,
 ) -> usize
-    requires { ⌜ ListHere (now list) head words × TextFits write (now list) (now out) ⌝ }
-    ensures { λ r. ⌜ TextWrote write (now (list .entry)) (now (out .entry)) (now (out .exit)) r ⌝ }
+    requires { ⌜ ListHere (now list) head words × SplitsKnown (now list) (head .ms) (now splits) × TextFits (now list) (now out) ⌝ }
+    ensures { λ r. ⌜ TextWrote (now (list .entry)) (now (out .entry)) (now (out .exit)) r ⌝ }
 {
     let ms = head.ms;
-    let a = put_header(out, 0, ms, head.gap, head.reserve, words as u16, write);
-    put_cycles(list, ms, out, a, write)
+    let a = put_header(out, 0, ms, head.gap, head.reserve, words as u16, true);
+    put_cycles(list, ms, splits, out, a)
 }

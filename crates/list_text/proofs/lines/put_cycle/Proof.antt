@@ -2,28 +2,25 @@
 -- Assumes nothing.
 use borrow.Author.Needs.{needs}
 use native.Mathlib.Omega.{arith}
-use Rattle.periods.proofs.HereLaws.{count-small, split-here}
+use Rattle.periods.proofs.HereLaws.{split-here}
 use Rattle.list_text.proofs.LinesLaws.{all-here, all-put, none-put}
 use Rattle.list_text.proofs.lines.put_cycle.Statement.{statement}
 use Rattle.list_text.proofs.lines.put_cycle.Tie as tie
 
 put-lines-requires : tie.Need-put-lines-requires
-put-lines-requires c κs = (omega arith, omega arith, all-here (c .before .before .before .before .before .args .list .now) (c .before .before .before .before .before .args .at) (c .before .before .before .before .before .args .size) (c .before .before .before .before .before .args .write) (c .before .before .before .before .before .args .to) (c .before .before .before .before .before .args .out .now) (c .before .before .before .before .before .pre .0) (c .before .before .before .before .before .pre .1) _ _ (c .before .before .sum-numbers .ensures) (c .before .if1 .taken))
+put-lines-requires c κs = (omega arith, omega arith, all-here (c .before .before .before .before .before .args .list .now) (c .before .before .before .before .before .args .at) (c .before .before .before .before .before .args .size) (c .before .before .before .before .before .args .to) (c .before .before .before .before .before .args .out .now) (c .before .before .before .before .before .pre .here) (c .before .before .before .before .before .pre .fits) _ _ (c .before .before .sum-numbers .ensures) (c .before .if1 .taken))
 
 returns : tie.Need-returns
-returns c h f = all-put (c .before .before .before .before .before .before .before .before .args .list .now) (c .before .before .before .before .before .before .before .before .args .at) (c .before .before .before .before .before .before .before .before .args .size) (c .before .before .before .before .before .before .before .before .args .write) (c .before .before .before .before .before .before .before .before .args .to) (c .before .before .before .before .before .before .before .before .args .out .now) h f _ _ (c .before .before .before .before .before .sum-numbers .ensures) (c .before .before .before .before .if1 .taken) _ (c .before .before .put-lines .result .to) (c .before .before .put-lines .result .next) (c .before .before .put-lines .ensures (all-here (c .before .before .before .before .before .before .before .before .args .list .now) (c .before .before .before .before .before .before .before .before .args .at) (c .before .before .before .before .before .before .before .before .args .size) (c .before .before .before .before .before .before .before .before .args .write) (c .before .before .before .before .before .before .before .before .args .to) (c .before .before .before .before .before .before .before .before .args .out .now) h f _ _ (c .before .before .before .before .before .sum-numbers .ensures) (c .before .before .before .before .if1 .taken)))
+returns c k = all-put (c .before .before .before .before .before .before .before .before .args .list .now) (c .before .before .before .before .before .before .before .before .args .at) (c .before .before .before .before .before .before .before .before .args .size) (c .before .before .before .before .before .before .before .before .args .to) (c .before .before .before .before .before .before .before .before .args .out .now) (k .here) (k .fits) _ _ (c .before .before .before .before .before .sum-numbers .ensures) (c .before .before .before .before .if1 .taken) _ (c .before .before .put-lines .result .to) (c .before .before .put-lines .result .next) (c .before .before .put-lines .ensures (all-here (c .before .before .before .before .before .before .before .before .args .list .now) (c .before .before .before .before .before .before .before .before .args .at) (c .before .before .before .before .before .before .before .before .args .size) (c .before .before .before .before .before .before .before .before .args .to) (c .before .before .before .before .before .before .before .before .args .out .now) (k .here) (k .fits) _ _ (c .before .before .before .before .before .sum-numbers .ensures) (c .before .before .before .before .if1 .taken)))
 
 returns-2 : tie.Need-returns-2
-returns-2 c h f = none-put (c .before .before .before .before .before .args .list .now) (c .before .before .before .before .before .args .at) (c .before .before .before .before .before .args .size) (c .before .before .before .before .before .args .write) (c .before .before .before .before .before .args .to) (c .before .before .before .before .before .args .out .now) h f _ _ (c .before .before .sum-numbers .ensures) (c .if2 .taken)
-
-cast-put-split : tie.Need-cast-put-split
-cast-put-split c = omega (arith, count-small (c .before .before .before .before .before .args .list .now) (c .before .before .before .before .before .args .at) (c .before .before .before .before .before .args .size) (c .before .before .before .before .before .pre .0) _ _ (c .before .before .sum-numbers .ensures))
+returns-2 c k = none-put (c .before .before .before .before .before .args .list .now) (c .before .before .before .before .before .args .at) (c .before .before .before .before .before .args .size) (c .before .before .before .before .before .args .to) (c .before .before .before .before .before .args .out .now) (k .here) (k .fits) _ _ (c .before .before .sum-numbers .ensures) (c .if2 .taken)
 
 put-split-requires : tie.Need-put-split-requires
-put-split-requires c κs = (split-here (c .before .before .before .before .before .before .args .list .now) (c .before .before .before .before .before .before .args .at) (c .before .before .before .before .before .before .args .size) (c .before .before .before .before .before .before .pre .0) _ _ (c .before .before .before .sum-numbers .ensures) (c .before .before .if1 .left) (c .before .if2 .left), c .before .before .before .before .before .before .pre .1)
+put-split-requires c κs = record { count = _; here = split-here (c .before .before .before .before .before .before .args .list .now) (c .before .before .before .before .before .before .args .at) (c .before .before .before .before .before .before .args .size) (c .before .before .before .before .before .before .pre .here) _ _ (c .before .before .before .sum-numbers .ensures) (c .before .before .if1 .left) (c .before .if2 .left); known = c .before .before .before .before .before .before .pre .known; fits = c .before .before .before .before .before .before .pre .fits }
 
 returns-3 : tie.Need-returns-3
-returns-3 c h f = c .before .before .put-split .ensures (split-here (c .before .before .before .before .before .before .before .before .before .args .list .now) (c .before .before .before .before .before .before .before .before .before .args .at) (c .before .before .before .before .before .before .before .before .before .args .size) h _ _ (c .before .before .before .before .before .before .sum-numbers .ensures) (c .before .before .before .before .before .if1 .left) (c .before .before .before .before .if2 .left)) f
+returns-3 c k = c .before .before .put-split .ensures (record { count = _; here = split-here (c .before .before .before .before .before .before .before .before .before .args .list .now) (c .before .before .before .before .before .before .before .before .before .args .at) (c .before .before .before .before .before .before .before .before .before .args .size) (k .here) _ _ (c .before .before .before .before .before .before .sum-numbers .ensures) (c .before .before .before .before .before .if1 .left) (c .before .before .before .before .if2 .left); known = k .known; fits = k .fits })
 
 pub put-cycle-spec : {M : Type 1} → statement M
 put-cycle-spec =
@@ -34,7 +31,6 @@ put-cycle-spec =
     (λ c. search needs)
     returns
     returns-2
-    cast-put-split
     put-split-requires
     (λ c. search needs)
     returns-3)
