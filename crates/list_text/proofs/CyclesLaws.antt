@@ -1,6 +1,6 @@
 -- The loops over the cycles of a list that is written so: measuring them, and writing their lines.
 -- Assumes nothing.
-use Prim.Native.Nat.{ℕ, zero, suc, _+_, _-_, _*_, _^_, _%_, _≤_, _<_}
+use Prim.Native.Nat.{ℕ, suc, _+_, _^_, _≤_, _<_}
 use mathlib.Core.Path.{_≡_, refl, ap, sym, _∙_, subst}
 use mathlib.Core.List.{List, [], _∷_, _++_, append-assoc, append-nil}
 use mathlib.Core.Bool.{Bool, true, false}
@@ -191,17 +191,17 @@ module _ (s : List ℕ) (ms cycles : ℕ) where
 pub record Writing (s : List ℕ) (ms cycles : ℕ) (splits : List ℕ) (to : ℕ) (out₀ out : List ℕ) (p q n size : ℕ) : Type 0 where
   pub at : Walk s ms cycles p n size
   pub places : SplitsKnown s ms splits
-  pub fits : Fits true to (length (cycleLines 0 (at .known .l .cycles))) out₀
+  pub fits : Fits to (length (cycleLines 0 (at .known .l .cycles))) out₀
   pub long : length out ≡ length out₀
-  pub wrote : Wrote true to (cycleLines 0 (at .done)) out₀ out q
+  pub wrote : Wrote to (cycleLines 0 (at .done)) out₀ out q
 
 module _ (s : List ℕ) (ms cycles : ℕ) (splits : List ℕ) (to : ℕ) (out₀ : List ℕ) where
   pub writing-start : (k : CyclesHere s ms splits to out₀) → cycles ≡ cyclesOf ms → (p : ℕ) → drop p s ≡ written (cyclesNumbers (k .known .l .cycles)) → Writing s ms cycles splits to out₀ out₀ p to 0 1
-  writing-start k c p b = record { at = walk-start s ms cycles (k .known) c p b; places = k .places; fits = k .fits; long = refl; wrote = wrote-none true to out₀ }
+  writing-start k c p b = record { at = walk-start s ms cycles (k .known) c p b; places = k .places; fits = k .fits; long = refl; wrote = wrote-none to out₀ }
 
   module _ (out : List ℕ) (p q n size : ℕ) (inv : Writing s ms cycles splits to out₀ out p q n size) where
     pub writing-end : cycles ≤ n → CyclesWrote s to out₀ out q
-    writing-end h m o w = as-bytes true to (cycleLines 0 (inv .at .done)) (cycleLines 0 (m .cycles)) out₀ out q (ap (cycleLines 0) (all-done s ms cycles p n size (inv .at) h m o w)) (inv .wrote)
+    writing-end h m o w = as-bytes to (cycleLines 0 (inv .at .done)) (cycleLines 0 (m .cycles)) out₀ out q (ap (cycleLines 0) (all-done s ms cycles p n size (inv .at) h m o w)) (inv .wrote)
 
     module _ (h : n < cycles) where
       pub place-known : n < length splits
@@ -213,7 +213,7 @@ module _ (s : List ℕ) (ms cycles : ℕ) (splits : List ℕ) (to : ℕ) (out₀
           record {
             here = cycle-here s ms cycles p n size (inv .at) h;
             known = inv .places .all (k .l) (k .obeys) (k .written-so) n (next s ms cycles p n size (inv .at) h .c) (next s ms cycles p n size (inv .at) h .later) (omega (arith, inv .at .all-cycles)) (from-here s ms cycles p n size (inv .at) h);
-            fits = fits-part true to (length (cycleLines 0 (k .l .cycles))) out₀ (inv .fits) q (length (cycleLines 0 (inv .at .done))) (length (linesOf size (next s ms cycles p n size (inv .at) h .c))) out (inv .wrote .next) (within s ms cycles p n size (inv .at) h) (inv .long);
+            fits = fits-part to (length (cycleLines 0 (k .l .cycles))) out₀ (inv .fits) q (length (cycleLines 0 (inv .at .done))) (length (linesOf size (next s ms cycles p n size (inv .at) h .c))) out (inv .wrote .next) (within s ms cycles p n size (inv .at) h) (inv .long);
           }
 
       pub writing-more : (out' : List ℕ) (q' p' : ℕ) → LinesPut s q (linesOf size (cycle-fits .here .c)) (cycle-fits .here .rest) out out' q' p' → length out' ≡ length out
@@ -224,6 +224,6 @@ module _ (s : List ℕ) (ms cycles : ℕ) (splits : List ℕ) (to : ℕ) (out₀
             places = inv .places;
             fits = inv .fits;
             long = k ∙ inv .long;
-            wrote = as-bytes true to (cycleLines 0 (inv .at .done) ++ linesOf size (next s ms cycles p n size (inv .at) h .c)) (cycleLines 0 (inv .at .done ++ next s ms cycles p n size (inv .at) h .c ∷ [])) out₀ out' q' (sym (one-more s ms cycles p n size (inv .at) h))
-                (and-then true to (cycleLines 0 (inv .at .done)) (linesOf size (next s ms cycles p n size (inv .at) h .c)) out₀ out out' q q' (length (cycleLines 0 (inv .at .known .l .cycles))) (inv .fits) (inv .wrote) (w .0));
+            wrote = as-bytes to (cycleLines 0 (inv .at .done) ++ linesOf size (next s ms cycles p n size (inv .at) h .c)) (cycleLines 0 (inv .at .done ++ next s ms cycles p n size (inv .at) h .c ∷ [])) out₀ out' q' (sym (one-more s ms cycles p n size (inv .at) h))
+                (and-then to (cycleLines 0 (inv .at .done)) (linesOf size (next s ms cycles p n size (inv .at) h .c)) out₀ out out' q q' (length (cycleLines 0 (inv .at .known .l .cycles))) (inv .fits) (inv .wrote) (w .0));
           }

@@ -1,7 +1,7 @@
 -- How long numerals and lines are, and measuring the lines of a cycle.
 -- Assumes nothing.
-use Prim.Native.Nat.{ℕ, zero, suc, _+_, _-_, _*_, _^_, _/_, _%_, _≤_, _<_}
-use mathlib.Core.Path.{_≡_, refl, ap, sym, _∙_, subst}
+use Prim.Native.Nat.{ℕ, suc, _+_, _*_, _^_, _/_, _%_, _≤_, _<_}
+use mathlib.Core.Path.{_≡_, refl, ap, sym, _∙_}
 use mathlib.Core.List.{List, [], _∷_, _++_}
 use mathlib.Core.Bool.{Bool, true, false, cond}
 use native.Mathlib.Numerals.{add-one}
@@ -18,9 +18,9 @@ use Rattle.lists.specs.Sends.{cutBy, subcycles}
 use Rattle.list_laws.proofs.Acceptance.{words-most}
 use Rattle.periods.specs.Inside.{CycleHere, SplitHere}
 use Rattle.periods.proofs.HereLaws.{shape, splits-most, after-words, count-there, no-split, only-words, no-word, nothing-here}
-use Rattle.list_text.specs.Text.{digit, two, decimal, space, newline, field, headerLine, wordLine, wordLines, subcycleLines, cycleLines}
+use Rattle.list_text.specs.Text.{digit, two, decimal, space, newline, headerLine, wordLine, refusedLine, wordLines, subcycleLines, cycleLines}
 use Rattle.list_text.specs.Inside.{linesOf, SplitsAt, CycleMeasured}
-use Rattle.list_text.proofs.WroteLaws.{two-small, two-large, decimal-small, decimal-length-large, two-few, decimal-few, field-length, header-length, line-length}
+use Rattle.list_text.proofs.WroteLaws.{two-small, two-large, decimal-small, decimal-length-large, two-few, decimal-few, field-length, header-length, line-length, refused-length}
 use Rattle.list_text.proofs.LinesLaws.{next-there, cut-cycle, only-lines, no-lines}
 
 -- ---- numerals
@@ -53,6 +53,9 @@ four-digits n l = (omega (arith, decimal-length-large n (omega arith), ap length
 pub header-long : (ms gap reserve words a b c d : ℕ) → a ≡ length (decimal ms) → b ≡ length (decimal gap) → c ≡ length (decimal reserve) → d ≡ length (decimal words) → a + b + c + d + 4 ≡ length (headerLine ms gap reserve words)
 header-long ms gap reserve words a b c d p q r s =
     omega (arith, header-length ms gap reserve words, field-length ms space, field-length gap space, field-length reserve space, field-length words newline)
+
+pub refused-long : (n a : ℕ) → a ≡ length (decimal n) → a + 9 ≡ length (refusedLine n)
+refused-long n a p = omega (arith, refused-length n, field-length n newline)
 
 pub line-long : (cycle sub a b : ℕ) → a ≡ length (decimal cycle) → b ≡ length (decimal sub) → a + b + 7 ≡ length (wordLine cycle sub 0)
 line-long cycle sub a b p q = omega (arith, line-length cycle sub 0, field-length cycle space, field-length sub newline)

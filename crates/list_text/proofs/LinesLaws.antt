@@ -1,34 +1,28 @@
 -- The loops over the words of a Subcycle and over the Subcycles of a cycle.
 -- Assumes nothing.
-use Prim.Native.Nat.{ℕ, zero, suc, _+_, _-_, _*_, _≤_, _<_}
+use Prim.Native.Nat.{ℕ, zero, suc, _+_, _≤_, _<_}
 use mathlib.Core.Path.{_≡_, refl, ap, sym, _∙_, subst}
 use mathlib.Core.List.{List, [], _∷_, _++_, append-assoc, append-nil}
-use mathlib.Core.Bool.{Bool, true, false}
 use native.Mathlib.Numerals.{add-one}
 use native.Mathlib.Omega.{arith}
-use lib.ListN.{length, getD, take, drop, length-append, length-take, length-drop, take-append-drop}
+use lib.ListN.{length, getD, take, drop, length-append, length-drop, take-append-drop}
 use lib.Pow.{pow-pos}
 use lib.Seq.{take-suc, take-all, drop-length, drop-drop, length-take-le, drop-cons}
 use Rattle.numbers.specs.Number.{sum}
 use Rattle.numbers.specs.Written.{written, Most}
 use Rattle.numbers.proofs.RunLaws.{Added}
 use Rattle.numbers.proofs.ThereLaws.{most-left, most-right, cut-written, sum-there}
-use Rattle.lists.specs.Values.{Cycle}
 use Rattle.lists.specs.Sends.{cutBy, subcycles}
 use Rattle.periods.specs.Inside.{CycleHere, SplitHere}
 use Rattle.lists.proofs.SplitLaws.{cut-length}
 use Rattle.periods.proofs.HereLaws.{shape, splits-most, all-words-most, size-small, count-there, no-split, only-words, no-word, nothing-here}
 use Rattle.list_laws.proofs.Acceptance.{words-most}
 use Rattle.list_text.specs.Text.{wordLine, wordLines, subcycleLines}
-use Rattle.list_text.specs.Inside.{wroteIf, Wrote, RoomIf, Fits, WordsHere, LinesPut, linesOf, SplitsAt}
+use Rattle.list_text.specs.Inside.{Wrote, Fits, WordsHere, LinesPut, linesOf, SplitsAt}
 use Rattle.list_text.proofs.WroteLaws.{fits-part, and-then, as-bytes}
 
-nothing-written : (write : Bool) (at : ℕ) (out : List ℕ) → out ≡ wroteIf write at [] out
-nothing-written true at out = let e : at + 0 ≡ at = omega arith in sym (ap (λ (k : ℕ). take at out ++ drop k out) e ∙ take-append-drop at out)
-nothing-written false at out = refl
-
-pub wrote-none : (write : Bool) (at : ℕ) (out : List ℕ) → Wrote write at [] out out at
-wrote-none write at out = record { next = omega arith; out-is = nothing-written write at out }
+pub wrote-none : (at : ℕ) (out : List ℕ) → Wrote at [] out out at
+wrote-none at out = let e : at + 0 ≡ at = omega arith in record { next = omega arith; out-is = sym (ap (λ (k : ℕ). take at out ++ drop k out) e ∙ take-append-drop at out) }
 
 -- ---- the words of a Subcycle
 lines-append : (cycle sub : ℕ) (a b : List ℕ) → wordLines cycle sub (a ++ b) ≡ wordLines cycle sub a ++ wordLines cycle sub b
@@ -50,18 +44,18 @@ pub record Lines (s : List ℕ) (at many cycle sub to : ℕ) (out₀ out : List 
   pub below : i ≤ many
   pub long : length out ≡ length out₀
   pub bytes : drop p s ≡ written (drop i (h .words)) ++ h .rest
-  pub done : Wrote true to (wordLines cycle sub (take i (h .words))) out₀ out q
+  pub done : Wrote to (wordLines cycle sub (take i (h .words))) out₀ out q
 
 module _ (s : List ℕ) (at many cycle sub to : ℕ) (out₀ : List ℕ) (h : WordsHere s at many cycle sub to out₀) where
   pub lines-start : Lines s at many cycle sub to out₀ out₀ at to 0 h
-  lines-start = record { below = omega arith; long = refl; bytes = h .bytes; done = wrote-none true to out₀ }
+  lines-start = record { below = omega arith; long = refl; bytes = h .bytes; done = wrote-none to out₀ }
 
   module _ (out : List ℕ) (p q i : ℕ) (inv : Lines s at many cycle sub to out₀ out p q i h) where
     pub lines-end : many ≤ i → LinesPut s to (wordLines cycle sub (h .words)) (h .rest) out₀ out q p
     lines-end l =
         let e : length (h .words) ≤ i = omega (arith, h .long) in
         let n : i ≡ length (h .words) = omega (arith, h .long, inv .below) in (
-          as-bytes true to (wordLines cycle sub (take i (h .words))) (wordLines cycle sub (h .words)) out₀ out q (ap (wordLines cycle sub) (take-all i (h .words) e)) (inv .done),
+          as-bytes to (wordLines cycle sub (take i (h .words))) (wordLines cycle sub (h .words)) out₀ out q (ap (wordLines cycle sub) (take-all i (h .words) e)) (inv .done),
           inv .bytes ∙ ap (λ (x : ℕ). written (drop x (h .words)) ++ h .rest) n ∙ ap (λ (x : List ℕ). written x ++ h .rest) (drop-length (h .words)),
         )
 
@@ -89,17 +83,17 @@ module _ (s : List ℕ) (at many cycle sub to : ℕ) (out₀ : List ℕ) (h : Wo
             length-append (wordLines cycle sub (take (i + 1) (h .words))) (wordLines cycle sub (drop (i + 1) (h .words))),
           )
 
-      pub line-fits : Fits true q (length (wordLine cycle sub w)) out
-      line-fits = fits-part true to (length (wordLines cycle sub (h .words))) out₀ (h .fits) q (length (wordLines cycle sub (take i (h .words)))) (length (wordLine cycle sub w)) out (inv .done .next) within (inv .long)
+      pub line-fits : Fits q (length (wordLine cycle sub w)) out
+      line-fits = fits-part to (length (wordLines cycle sub (h .words))) out₀ (h .fits) q (length (wordLines cycle sub (take i (h .words)))) (length (wordLine cycle sub w)) out (inv .done .next) within (inv .long)
 
-      pub lines-more : (out' : List ℕ) (r : ℕ) → Wrote true q (wordLine cycle sub w) out out' r → length out' ≡ length out → Lines s at many cycle sub to out₀ out' next r (i + 1) h
+      pub lines-more : (out' : List ℕ) (r : ℕ) → Wrote q (wordLine cycle sub w) out out' r → length out' ≡ length out → Lines s at many cycle sub to out₀ out' next r (i + 1) h
       lines-more out' r x k =
           record {
             below = omega arith;
             long = k ∙ inv .long;
             bytes = here .1;
-            done = as-bytes true to (wordLines cycle sub (take i (h .words)) ++ wordLine cycle sub w) (wordLines cycle sub (take (i + 1) (h .words))) out₀ out' r (sym one-more)
-                (and-then true to (wordLines cycle sub (take i (h .words))) (wordLine cycle sub w) out₀ out out' q r (length (wordLines cycle sub (h .words))) (h .fits) (inv .done) x);
+            done = as-bytes to (wordLines cycle sub (take i (h .words)) ++ wordLine cycle sub w) (wordLines cycle sub (take (i + 1) (h .words))) out₀ out' r (sym one-more)
+                (and-then to (wordLines cycle sub (take i (h .words))) (wordLine cycle sub w) out₀ out out' q r (length (wordLines cycle sub (h .words))) (h .fits) (inv .done) x);
           }
 
 -- ---- the Subcycles of a cycle
@@ -136,9 +130,9 @@ pub record Subs (s : List ℕ) (at count size to : ℕ) (out₀ out : List ℕ) 
   pub long : length out ≡ length out₀
   pub splits-at : drop p s ≡ written (drop i (h .c .splits)) ++ h .rest
   pub words-at : drop w s ≡ written (drop (sum (take i (h .c .splits))) (h .c .words)) ++ (written (h .c .splits) ++ h .rest)
-  pub done : Wrote true to (subcycleLines size 0 (cutBy (h .c .words) (take i (h .c .splits)))) out₀ out q
+  pub done : Wrote to (subcycleLines size 0 (cutBy (h .c .words) (take i (h .c .splits)))) out₀ out q
 
-module _ (s : List ℕ) (at count size to : ℕ) (out₀ : List ℕ) (h : SplitHere s at count size) (f : Fits true to (length (linesOf size (h .c))) out₀) where
+module _ (s : List ℕ) (at count size to : ℕ) (out₀ : List ℕ) (h : SplitHere s at count size) (f : Fits to (length (linesOf size (h .c))) out₀) where
   ws : List ℕ
   ws = h .c .words
 
@@ -153,11 +147,11 @@ module _ (s : List ℕ) (at count size to : ℕ) (out₀ : List ℕ) (h : SplitH
   unfolding ws zs
   is-cut = ap (subcycleLines size 0) (cut-cycle ws zs (λ e. omega (arith, many-splits, h .power, pow-pos (h .n))))
 
-  all-fit : Fits true to (length (subcycleLines size 0 (cutBy ws zs))) out₀
-  all-fit = subst (λ (x : List ℕ). Fits true to (length x) out₀) is-cut f
+  all-fit : Fits to (length (subcycleLines size 0 (cutBy ws zs))) out₀
+  all-fit = subst (λ (x : List ℕ). Fits to (length x) out₀) is-cut f
 
   pub subs-start : (splits : ℕ) → SplitsAt s splits (h .c) (h .rest) → Subs s at count size to out₀ out₀ splits at to 0 h
-  subs-start splits known = record { below = omega arith; long = refl; splits-at = known; words-at = h .bytes; done = wrote-none true to out₀ }
+  subs-start splits known = record { below = omega arith; long = refl; splits-at = known; words-at = h .bytes; done = wrote-none to out₀ }
 
   module _ (out : List ℕ) (p w q i : ℕ) (inv : Subs s at count size to out₀ out p w q i h) where
     pub subs-end : size ≤ i → LinesPut s to (linesOf size (h .c)) (h .rest) out₀ out q p
@@ -165,7 +159,7 @@ module _ (s : List ℕ) (at count size to : ℕ) (out₀ : List ℕ) (h : SplitH
     subs-end l =
         let e : length zs ≤ i = omega (arith, many-splits) in
         let n : i ≡ length zs = omega (arith, many-splits, inv .below) in (
-          as-bytes true to (subcycleLines size 0 (cutBy ws (take i zs))) (linesOf size (h .c)) out₀ out q (ap (λ (x : List ℕ). subcycleLines size 0 (cutBy ws x)) (take-all i zs e) ∙ sym is-cut) (inv .done),
+          as-bytes to (subcycleLines size 0 (cutBy ws (take i zs))) (linesOf size (h .c)) out₀ out q (ap (λ (x : List ℕ). subcycleLines size 0 (cutBy ws x)) (take-all i zs e) ∙ sym is-cut) (inv .done),
           inv .splits-at ∙ ap (λ (x : ℕ). written (drop x zs) ++ h .rest) n ∙ ap (λ (x : List ℕ). written x ++ h .rest) (drop-length zs),
         )
 
@@ -237,7 +231,7 @@ module _ (s : List ℕ) (at count size to : ℕ) (out₀ : List ℕ) (h : SplitH
             long = part-long;
             most = part-most;
             bytes = inv .words-at ∙ cut-written z (drop from ws) (written zs ++ h .rest);
-            fits = fits-part true to (length (subcycleLines size 0 (cutBy ws zs))) out₀ all-fit q (length (subcycleLines size 0 (cutBy ws (take i zs)))) (length (wordLines size i part)) out (inv .done .next) room (inv .long);
+            fits = fits-part to (length (subcycleLines size 0 (cutBy ws zs))) out₀ all-fit q (length (subcycleLines size 0 (cutBy ws (take i zs)))) (length (wordLines size i part)) out (inv .done .next) room (inv .long);
           }
 
       pub subs-more : (out' : List ℕ) (r w' : ℕ) → LinesPut s q (wordLines size i (part-here .words)) (part-here .rest) out out' r w' → length out' ≡ length out
@@ -250,8 +244,8 @@ module _ (s : List ℕ) (at count size to : ℕ) (out₀ : List ℕ) (h : SplitH
             splits-at = split-there .1;
             words-at = x .1 ∙ ap (λ (y : List ℕ). written y ++ (written zs ++ h .rest)) (drop-drop z from ws)
                 ∙ ap (λ (n : ℕ). written (drop n ws) ++ (written zs ++ h .rest)) (sym from-next);
-            done = as-bytes true to (subcycleLines size 0 (cutBy ws (take i zs)) ++ wordLines size i part) (subcycleLines size 0 (cutBy ws (take (i + 1) zs))) out₀ out' r (sym next-part)
-                (and-then true to (subcycleLines size 0 (cutBy ws (take i zs))) (wordLines size i part) out₀ out out' q r (length (subcycleLines size 0 (cutBy ws zs))) all-fit (inv .done) (x .0));
+            done = as-bytes to (subcycleLines size 0 (cutBy ws (take i zs)) ++ wordLines size i part) (subcycleLines size 0 (cutBy ws (take (i + 1) zs))) out₀ out' r (sym next-part)
+                (and-then to (subcycleLines size 0 (cutBy ws (take i zs))) (wordLines size i part) out₀ out out' q r (length (subcycleLines size 0 (cutBy ws zs))) all-fit (inv .done) (x .0));
           }
 
 -- ---- any cycle
@@ -264,7 +258,7 @@ module _ (s : List ℕ) (at size : ℕ) (h : CycleHere s at size) (count p : ℕ
       let w = no-word s at size h count p a z in
       ap (λ (x : List ℕ). subcycleLines size 0 (subcycles x (h .c .splits))) (w .0) ∙ ap (λ (x : List ℕ). subcycleLines size 0 (subcycles [] x)) (w .1)
 
-module _ (s : List ℕ) (at size to : ℕ) (out : List ℕ) (h : CycleHere s at size) (f : Fits true to (length (linesOf size (h .c))) out) (count p : ℕ) (a : Added s at 1 count p) where
+module _ (s : List ℕ) (at size to : ℕ) (out : List ℕ) (h : CycleHere s at size) (f : Fits to (length (linesOf size (h .c))) out) (count p : ℕ) (a : Added s at 1 count p) where
   module _ (one : size ≡ 1) where
     pub all-here : WordsHere s p count size 0 to out
     all-here =
@@ -274,12 +268,12 @@ module _ (s : List ℕ) (at size to : ℕ) (out : List ℕ) (h : CycleHere s at 
           long = sym (count-there s at size h count p a .0);
           most = words-most (h .c .words) (h .obeys .words);
           bytes = only-words s at size h count p a one;
-          fits = subst (λ (x : List ℕ). Fits true to (length x) out) (only-lines s at size h count p a one) f;
+          fits = subst (λ (x : List ℕ). Fits to (length x) out) (only-lines s at size h count p a one) f;
         }
 
     pub all-put : (out' : List ℕ) (r next : ℕ) → LinesPut s to (wordLines size 0 (all-here .words)) (all-here .rest) out out' r next → LinesPut s to (linesOf size (h .c)) (h .rest) out out' r next
     unfolding all-here
-    all-put out' r next x = (as-bytes true to (wordLines size 0 (h .c .words)) (linesOf size (h .c)) out out' r (sym (only-lines s at size h count p a one)) (x .0), x .1)
+    all-put out' r next x = (as-bytes to (wordLines size 0 (h .c .words)) (linesOf size (h .c)) out out' r (sym (only-lines s at size h count p a one)) (x .0), x .1)
 
   pub none-put : count ≡ 0 → LinesPut s to (linesOf size (h .c)) (h .rest) out out to p
-  none-put z = (as-bytes true to [] (linesOf size (h .c)) out out to (sym (no-lines s at size h count p a z)) (wrote-none true to out), nothing-here s at size h count p a z)
+  none-put z = (as-bytes to [] (linesOf size (h .c)) out out to (sym (no-lines s at size h count p a z)) (wrote-none to out), nothing-here s at size h count p a z)

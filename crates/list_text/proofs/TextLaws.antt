@@ -1,13 +1,13 @@
 -- The whole text: how long it can be, and the ways out of writing it.
 -- Assumes nothing.
-use Prim.Native.Nat.{ℕ, zero, suc, _+_, _-_, _*_, _^_, _/_, _%_, _≤_, _<_}
+use Prim.Native.Nat.{ℕ, suc, _+_, _*_, _≤_, _<_}
 use mathlib.Core.Path.{_≡_, refl, ap, sym, _∙_, subst}
 use mathlib.Core.List.{List, [], _∷_, _++_}
 use mathlib.Core.Bool.{Bool, true, false, cond}
 use native.Mathlib.Omega.{arith}
 use borrow.Author.Tests.{le-leb, lt-leb, leb-true}
-use lib.Dec.{ltb, leb}
-use lib.ListN.{length, take, drop, length-append, length-take, length-drop}
+use lib.Dec.{leb}
+use lib.ListN.{length, drop, length-append}
 use Rattle.refusals.specs.declared.Refusal.{Refusal}
 use Rattle.refusals.specs.Refusals.{numberOf}
 use Rattle.refusals.specs.Told.{Told, gives, refusing, refusal}
@@ -15,7 +15,7 @@ use Rattle.numbers.specs.Written.{Bytes}
 use Rattle.lists.specs.declared.Header.{Header}
 use Rattle.lists.specs.declared.ListCheck.{ListCheck}
 use Rattle.lists.specs.declared.ListCheck.the-variants.{Accepted, Refused}
-use Rattle.lists.specs.Values.{Cycle, PeriodicList, cyclesOf, wordsOf}
+use Rattle.lists.specs.Values.{Cycle, PeriodicList, wordsOf}
 use Rattle.lists.specs.Reading.{Read, denied, took}
 use Rattle.lists.specs.Accepts.{accepted}
 use Rattle.lists.specs.Answers.{toldCheck, toldRead}
@@ -23,9 +23,8 @@ use Rattle.list_laws.specs.Written.{file, CyclesObey, Obeys}
 use Rattle.lists.proofs.ListLaws.{cycles-most}
 use Rattle.periods.proofs.PeriodLaws.{told-no}
 use Rattle.list_laws.proofs.Acceptance.{accepted-obeys, obeys-accepted, one-list}
-use Rattle.periods.specs.Inside.{IsList}
-use Rattle.list_text.specs.Text.{space, newline, field, headerLine, refusedLine, cycleLines, textOf, textBy}
-use Rattle.list_text.specs.Inside.{wroteIf, Wrote, RoomIf, Fits, SplitsKnown, CyclesHere, CyclesWrote, ListHere, TextFits, TextWrote}
+use Rattle.list_text.specs.Text.{space, newline, headerLine, refusedLine, cycleLines, textOf, textBy}
+use Rattle.list_text.specs.Inside.{Wrote, Fits, SplitsKnown, CyclesHere, CyclesWrote, ListHere, TextFits, TextWrote}
 use Rattle.list_text.proofs.WroteLaws.{fits-part, and-then, as-bytes, decimal-few, field-length, header-length, refused-length}
 use Rattle.list_text.proofs.LengthLaws.{decimal-one, decimal-three, cycles-few}
 
@@ -85,7 +84,7 @@ module _ (s : List ℕ) (h : Header) (words : ℕ) (k : ListHere s h words) (spl
   l : PeriodicList
   l = k .known .l
 
-  all-fits : Fits true 0 (length (textOf (took l []))) out
+  all-fits : Fits 0 (length (textOf (took l []))) out
   unfolding l
   all-fits = f (k .known .l) (k .known .obeys) (k .known .written-so)
 
@@ -93,7 +92,7 @@ module _ (s : List ℕ) (h : Header) (words : ℕ) (k : ListHere s h words) (spl
   unfolding l
   text-length = long-is s h words k
 
-  pub header-asked : (h .ms < 10000) × (h .gap < 10000) × (h .reserve < 10000) × (words < 10000) × Fits true 0 (length (headerLine (h .ms) (h .gap) (h .reserve) words)) out
+  pub header-asked : (h .ms < 10000) × (h .gap < 10000) × (h .reserve < 10000) × (words < 10000) × Fits 0 (length (headerLine (h .ms) (h .gap) (h .reserve) words)) out
   unfolding l
   header-asked =
       let o = k .known .obeys in (
@@ -101,27 +100,27 @@ module _ (s : List ℕ) (h : Header) (words : ℕ) (k : ListHere s h words) (spl
         omega (arith, k .gap, o .gap .1),
         omega (arith, k .reserve, o .reserve .1, o .ms .1),
         omega (arith, words-small s h words k),
-        fits-part true 0 (length (textOf (took l []))) out all-fits 0 0 (length (headerLine (h .ms) (h .gap) (h .reserve) words)) out (omega arith) (omega (arith, text-length)) refl,
+        fits-part 0 (length (textOf (took l []))) out all-fits 0 0 (length (headerLine (h .ms) (h .gap) (h .reserve) words)) out (omega arith) (omega (arith, text-length)) refl,
       )
 
-  module _ (out₁ : List ℕ) (a : ℕ) (w : Wrote true 0 (headerLine (h .ms) (h .gap) (h .reserve) words) out out₁ a) (e : length out₁ ≡ length out) where
+  module _ (out₁ : List ℕ) (a : ℕ) (w : Wrote 0 (headerLine (h .ms) (h .gap) (h .reserve) words) out out₁ a) (e : length out₁ ≡ length out) where
     pub cycles-asked : CyclesHere s (h .ms) splits a out₁
     unfolding l
     cycles-asked =
         record {
           known = k .known;
           places = u;
-          fits = fits-part true 0 (length (textOf (took l []))) out all-fits a (length (headerLine (h .ms) (h .gap) (h .reserve) words)) (length (cycleLines 0 (l .cycles))) out₁ (w .next) (omega (arith, text-length)) e;
+          fits = fits-part 0 (length (textOf (took l []))) out all-fits a (length (headerLine (h .ms) (h .gap) (h .reserve) words)) (length (cycleLines 0 (l .cycles))) out₁ (w .next) (omega (arith, text-length)) e;
         }
 
     pub text-done : (out₂ : List ℕ) (r : ℕ) → CyclesWrote s a out₁ out₂ r → TextWrote s out out₂ r
     unfolding l
     text-done out₂ r c m o q =
         let x : l ≡ m = one-list l m (k .known .obeys) o (k .known .written-so ∙ sym q) in
-        let y : Wrote true 0 (headerLine (h .ms) (h .gap) (h .reserve) words ++ cycleLines 0 (l .cycles)) out out₂ r =
-        and-then true 0 (headerLine (h .ms) (h .gap) (h .reserve) words) (cycleLines 0 (l .cycles)) out out₁ out₂ a r (length (textOf (took l []))) all-fits w (c l (k .known .obeys) (k .known .written-so)) in
-        subst (λ (z : PeriodicList). Wrote true 0 (textOf (took z [])) out out₂ r) x
-        (as-bytes true 0 (headerLine (h .ms) (h .gap) (h .reserve) words ++ cycleLines 0 (l .cycles)) (textOf (took l [])) out out₂ r (ap (λ (u : List ℕ). u ++ cycleLines 0 (l .cycles)) (header-same s h words k)) y)
+        let y : Wrote 0 (headerLine (h .ms) (h .gap) (h .reserve) words ++ cycleLines 0 (l .cycles)) out out₂ r =
+        and-then 0 (headerLine (h .ms) (h .gap) (h .reserve) words) (cycleLines 0 (l .cycles)) out out₁ out₂ a r (length (textOf (took l []))) all-fits w (c l (k .known .obeys) (k .known .written-so)) in
+        subst (λ (z : PeriodicList). Wrote 0 (textOf (took z [])) out out₂ r) x
+        (as-bytes 0 (headerLine (h .ms) (h .gap) (h .reserve) words ++ cycleLines 0 (l .cycles)) (textOf (took l [])) out out₂ r (ap (λ (u : List ℕ). u ++ cycleLines 0 (l .cycles)) (header-same s h words k)) y)
 
 -- ---- asking for the text
 abbrev pub Answer : List ℕ → List ℕ → Told → List ℕ → Type 0
@@ -135,7 +134,7 @@ module _ (s out : List ℕ) (r : Read PeriodicList) (e : accepted s ≡ r) (k : 
       let b : leb (length (textOf r)) (length out) ≡ false = lt-leb (length (textOf r)) (length out) (omega arith) in
       (rw (e, b), rw (e, b))
 
-  enough : k ≤ length out → (m : ℕ) (out' : List ℕ) → Wrote true 0 (textOf r) out out' m → Answer s out (gives (m ∷ [])) out'
+  enough : k ≤ length out → (m : ℕ) (out' : List ℕ) → Wrote 0 (textOf r) out out' m → Answer s out (gives (m ∷ [])) out'
   unfolding textBy
   enough h m out' w =
       let b : leb (length (textOf r)) (length out) ≡ true = le-leb (length (textOf r)) (length out) (omega arith) in
@@ -143,29 +142,20 @@ module _ (s out : List ℕ) (r : Read PeriodicList) (e : accepted s ≡ r) (k : 
       let z : 0 + length (textOf r) ≡ length (textOf r) = omega arith in
       (rw (e, b) (ap (λ (x : ℕ). gives (x ∷ [])) j), rw (e, b) (w .out-is ∙ ap (λ (x : ℕ). textOf r ++ drop x out) z))
 
--- after the text was counted
-module _ (s out : List ℕ) (r : Read PeriodicList) (e : accepted s ≡ r) (k : ℕ) (out₁ : List ℕ) (c : Wrote false 0 (textOf r) out out₁ k) where
-  pub too-short : length out₁ < k → Answer s out (refusal 4) out₁
-  too-short h =
-      let q : out₁ ≡ out = c .out-is in
-      subst (λ (x : List ℕ). Answer s out (refusal 4) x) (sym q) (short s out r e k (omega (arith, c .next)) (omega (arith, ap length q)))
-
-  pub all-written : k ≤ length out₁ → (m : ℕ) (out' : List ℕ) → Wrote true 0 (textOf r) out₁ out' m → Answer s out (gives (m ∷ [])) out'
-  all-written h m out' w =
-      let q : out₁ ≡ out = c .out-is in
-      enough s out r e k (omega (arith, c .next)) (omega (arith, ap length q)) m out' (subst (λ (x : List ℕ). Wrote true 0 (textOf r) x out' m) q w)
-
-counts : (n : ℕ) (out : List ℕ) → n ≤ 100000 → Fits false 0 n out
-counts n out h = record { room = tt; small = omega arith }
-
-writes : (n : ℕ) (out : List ℕ) → n ≤ 100000 → n ≤ length out → Fits true 0 n out
+writes : (n : ℕ) (out : List ℕ) → n ≤ 100000 → n ≤ length out → Fits 0 n out
 writes n out h l = record { room = omega arith; small = omega arith }
 
-pub refused-counts : (n : ℕ) (out : List ℕ) → Fits false 0 (length (refusedLine n)) out
-refused-counts n out = counts (length (refusedLine n)) out (omega (arith, refused-few n))
+-- a refusal's text
+module _ (s : List ℕ) (n : ℕ) (e : accepted s ≡ denied n) (k : ℕ) (a : k ≡ length (refusedLine n)) (out : List ℕ) where
+  pub refused-short : length out < k → Answer s out (refusal 4) out
+  refused-short = short s out (denied n) e k a
 
-pub refused-writes : (n : ℕ) (out out' : List ℕ) (k : ℕ) → Wrote false 0 (refusedLine n) out out' k → k ≤ length out' → Fits true 0 (length (refusedLine n)) out'
-refused-writes n out out' k w h = writes (length (refusedLine n)) out' (omega (arith, refused-few n)) (omega (arith, w .next))
+  module _ (r : k ≤ length out) where
+    pub refused-fits : Fits 0 (length (refusedLine n)) out
+    refused-fits = writes (length (refusedLine n)) out (omega (arith, refused-few n)) (omega arith)
+
+    pub refused-written : (m : ℕ) (out' : List ℕ) → Wrote 0 (refusedLine n) out out' m → Answer s out (gives (m ∷ [])) out'
+    refused-written = enough s out (denied n) e k a r
 
 -- after the list was measured
 module _ (s : List ℕ) (h : Header) (words : ℕ) (k : ListHere s h words) (header lines : ℕ) (a : header ≡ length (headerLine (h .ms) (h .gap) (h .reserve) words)) (b : (l : PeriodicList) → Obeys l → file l ≡ s → lines ≡ length (cycleLines 0 (l .cycles))) where

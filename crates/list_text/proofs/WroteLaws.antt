@@ -1,6 +1,6 @@
--- Bytes counted or written one after the other.
+-- Bytes written one after the other.
 -- Assumes nothing.
-use Prim.Native.Nat.{ℕ, zero, suc, _+_, _-_, _*_, _/_, _%_, _≤_, _<_}
+use Prim.Native.Nat.{ℕ, _+_, _/_, _%_, _≤_, _<_}
 use mathlib.Core.Path.{_≡_, refl, ap, sym, _∙_, subst}
 use mathlib.Core.List.{List, [], _∷_, _++_, append-assoc}
 use mathlib.Core.Bool.{Bool, true, false, cond}
@@ -8,14 +8,13 @@ use native.Mathlib.Numerals.{add-one}
 use native.Mathlib.Omega.{arith}
 use borrow.Author.Tests.{lt-ltb, le-ltb}
 use lib.Dec.{ltb}
-use lib.ListN.{length, take, drop, set, length-append, length-drop}
+use lib.ListN.{length, take, drop, set, length-append}
 use lib.Seq.{take-at, drop-at, drop-drop, length-take-le, set-split}
 use Rattle.list_text.specs.Text.{digit, two, decimal, hex, space, newline, field, headerLine, wordLine, refusedLine}
-use Rattle.list_text.specs.Inside.{wroteIf, Wrote, RoomIf, Fits}
+use Rattle.list_text.specs.Inside.{wroteAt, Wrote, Fits}
 
-wrote-more : (write : Bool) (at : ℕ) (a b out : List ℕ) → RoomIf write at out → wroteIf write (at + length a) b (wroteIf write at a out) ≡ wroteIf write at (a ++ b) out
-wrote-more false at a b out h = refl
-wrote-more true at a b out h =
+wrote-more : (at : ℕ) (a b out : List ℕ) → at ≤ length out → wroteAt (at + length a) b (wroteAt at a out) ≡ wroteAt at (a ++ b) out
+wrote-more at a b out h =
     let n : length (take at out) ≡ at = length-take-le at out h in
     let m : length (take at out ++ a) ≡ at + length a = omega (arith, length-append (take at out) a) in
     let e : take at out ++ (a ++ drop (at + length a) out) ≡ (take at out ++ a) ++ drop (at + length a) out = sym (append-assoc (take at out) a (drop (at + length a) out)) in
@@ -26,46 +25,20 @@ wrote-more true at a b out h =
     sym (drop-drop (length b) (at + length a) (take at out ++ (a ++ drop (at + length a) out))) ∙ ap (drop (length b)) y ∙ drop-drop (length b) (at + length a) out ∙ ap (λ (k : ℕ). drop k out) l in
     rw (x, z) (append-assoc (take at out) a (b ++ drop (at + length (a ++ b)) out) ∙ ap (λ (t : List ℕ). take at out ++ t) (sym (append-assoc a b (drop (at + length (a ++ b)) out))))
 
-room-less : (write : Bool) (m n : ℕ) (out : List ℕ) → m ≤ n → RoomIf write n out → RoomIf write m out
-room-less true m n out l h = omega arith
-room-less false m n out l h = tt
-
-room-same : (write : Bool) (n : ℕ) (out out' : List ℕ) → length out' ≡ length out → RoomIf write n out → RoomIf write n out'
-room-same true n out out' e h = omega arith
-room-same false n out out' e h = tt
-
 -- what fits is a part of what fits, after some bytes
-pub fits-part : (write : Bool) (at n : ℕ) (out : List ℕ) → Fits write at n out → (p a b : ℕ) (out' : List ℕ) → p ≡ at + a → a + b ≤ n → length out' ≡ length out → Fits write p b out'
-fits-part write at n out f p a b out' e l k =
-    record { room = room-same write (p + b) out out' k (room-less write (p + b) (at + n) out (omega arith) (f .room)); small = omega (arith, f .small) }
+pub fits-part : (at n : ℕ) (out : List ℕ) → Fits at n out → (p a b : ℕ) (out' : List ℕ) → p ≡ at + a → a + b ≤ n → length out' ≡ length out → Fits p b out'
+fits-part at n out f p a b out' e l k = record { room = omega (arith, f .room); small = omega (arith, f .small) }
 
-pub and-then : (write : Bool) (at : ℕ) (a b out out₁ out₂ : List ℕ) (p r n : ℕ) → Fits write at n out → Wrote write at a out out₁ p → Wrote write p b out₁ out₂ r → Wrote write at (a ++ b) out out₂ r
-and-then write at a b out out₁ out₂ p r n f x y =
+pub and-then : (at : ℕ) (a b out out₁ out₂ : List ℕ) (p r n : ℕ) → Fits at n out → Wrote at a out out₁ p → Wrote p b out₁ out₂ r → Wrote at (a ++ b) out out₂ r
+and-then at a b out out₁ out₂ p r n f x y =
     record {
       next = omega (arith, x .next, y .next, length-append a b);
-      out-is = y .out-is ∙ ap (λ (k : ℕ). wroteIf write k b out₁) (x .next) ∙ ap (wroteIf write (at + length a) b) (x .out-is)
-          ∙ wrote-more write at a b out (room-less write at (at + n) out (omega arith) (f .room));
+      out-is = y .out-is ∙ ap (λ (k : ℕ). wroteAt k b out₁) (x .next) ∙ ap (wroteAt (at + length a) b) (x .out-is)
+          ∙ wrote-more at a b out (omega (arith, f .room));
     }
 
-pub one-stored : (at b : ℕ) (out : List ℕ) → Fits true at 1 out → Wrote true at (b ∷ []) out (set out at b) (at + 1)
-one-stored at b out f =
-    let h : at < length out = omega (arith, f .room) in
-    record { next = refl; out-is = set-split out at b h ∙ ap (λ (k : ℕ). take at out ++ b ∷ drop k out) (sym (add-one at)) }
-
-pub one-counted : (at b : ℕ) (out : List ℕ) → Wrote false at (b ∷ []) out out (at + 1)
-one-counted at b out = record { next = refl; out-is = refl }
-
-pub there : (write : Bool) (at : ℕ) (out : List ℕ) → write ≡ true → Fits write at 1 out → at < length out
-there true at out e f = omega (arith, f .room)
-there false at out e f = let z : _≡_ {A = ℕ} 0 1 = cc in absurd (omega arith)
-
-pub stored : (write : Bool) (at b : ℕ) (out : List ℕ) → write ≡ true → Fits write at 1 out → Wrote write at (b ∷ []) out (set out at b) (at + 1)
-stored true at b out e f = one-stored at b out f
-stored false at b out e f = let z : _≡_ {A = ℕ} 0 1 = cc in absurd (omega arith)
-
-pub counted : (write : Bool) (at b : ℕ) (out : List ℕ) → write ≡ false → Wrote write at (b ∷ []) out out (at + 1)
-counted true at b out e = let z : _≡_ {A = ℕ} 0 1 = cc in absurd (omega arith)
-counted false at b out e = one-counted at b out
+pub stored : (at b : ℕ) (out : List ℕ) → Fits at 1 out → Wrote at (b ∷ []) out (set out at b) (at + 1)
+stored at b out f = record { next = refl; out-is = set-split out at b (omega (arith, f .room)) ∙ ap (λ (k : ℕ). take at out ++ b ∷ drop k out) (sym (add-one at)) }
 
 pub small-digit : (d x : ℕ) → d < 10 → x ≡ 48 + d → x ≡ digit d
 small-digit d x h e = rw (lt-ltb d 10 h) e
@@ -74,34 +47,34 @@ pub large-digit : (d x : ℕ) → 10 ≤ d → x ≡ 55 + d → x ≡ digit d
 large-digit d x h e = rw (le-ltb d 10 h) e
 
 -- ---- two bytes or more
-module _ (write : Bool) (at n : ℕ) (out : List ℕ) (f : Fits write at n out) where
-  pub one-fits : 1 ≤ n → Fits write at 1 out
-  one-fits h = fits-part write at n out f at 0 1 out (omega arith) (omega arith) refl
+module _ (at n : ℕ) (out : List ℕ) (f : Fits at n out) where
+  pub one-fits : 1 ≤ n → Fits at 1 out
+  one-fits h = fits-part at n out f at 0 1 out (omega arith) (omega arith) refl
 
 -- up to four steps, one after the other
-module _ (write : Bool) (at n : ℕ) (out : List ℕ) (f : Fits write at n out) (a out₁ : List ℕ) (p₁ : ℕ) (x₁ : Wrote write at a out out₁ p₁) (k₁ : length out₁ ≡ length out) where
-  pub fits₂ : (b : ℕ) → length a + b ≤ n → Fits write p₁ b out₁
-  fits₂ b h = fits-part write at n out f p₁ (length a) b out₁ (x₁ .next) h k₁
+module _ (at n : ℕ) (out : List ℕ) (f : Fits at n out) (a out₁ : List ℕ) (p₁ : ℕ) (x₁ : Wrote at a out out₁ p₁) (k₁ : length out₁ ≡ length out) where
+  pub fits₂ : (b : ℕ) → length a + b ≤ n → Fits p₁ b out₁
+  fits₂ b h = fits-part at n out f p₁ (length a) b out₁ (x₁ .next) h k₁
 
-  module _ (b out₂ : List ℕ) (p₂ : ℕ) (x₂ : Wrote write p₁ b out₁ out₂ p₂) (k₂ : length out₂ ≡ length out₁) where
-    pub wrote₂ : Wrote write at (a ++ b) out out₂ p₂
-    wrote₂ = and-then write at a b out out₁ out₂ p₁ p₂ n f x₁ x₂
+  module _ (b out₂ : List ℕ) (p₂ : ℕ) (x₂ : Wrote p₁ b out₁ out₂ p₂) (k₂ : length out₂ ≡ length out₁) where
+    pub wrote₂ : Wrote at (a ++ b) out out₂ p₂
+    wrote₂ = and-then at a b out out₁ out₂ p₁ p₂ n f x₁ x₂
 
-    pub fits₃ : (c : ℕ) → length a + length b + c ≤ n → Fits write p₂ c out₂
-    fits₃ c h = fits-part write at n out f p₂ (length a + length b) c out₂ (omega (arith, x₁ .next, x₂ .next)) h (k₂ ∙ k₁)
+    pub fits₃ : (c : ℕ) → length a + length b + c ≤ n → Fits p₂ c out₂
+    fits₃ c h = fits-part at n out f p₂ (length a + length b) c out₂ (omega (arith, x₁ .next, x₂ .next)) h (k₂ ∙ k₁)
 
-    module _ (c out₃ : List ℕ) (p₃ : ℕ) (x₃ : Wrote write p₂ c out₂ out₃ p₃) (k₃ : length out₃ ≡ length out₂) where
-      pub wrote₃ : Wrote write at ((a ++ b) ++ c) out out₃ p₃
-      wrote₃ = and-then write at (a ++ b) c out out₂ out₃ p₂ p₃ n f wrote₂ x₃
+    module _ (c out₃ : List ℕ) (p₃ : ℕ) (x₃ : Wrote p₂ c out₂ out₃ p₃) (k₃ : length out₃ ≡ length out₂) where
+      pub wrote₃ : Wrote at ((a ++ b) ++ c) out out₃ p₃
+      wrote₃ = and-then at (a ++ b) c out out₂ out₃ p₂ p₃ n f wrote₂ x₃
 
-      pub fits₄ : (d : ℕ) → length a + length b + length c + d ≤ n → Fits write p₃ d out₃
-      fits₄ d h = fits-part write at n out f p₃ (length a + length b + length c) d out₃ (omega (arith, x₁ .next, x₂ .next, x₃ .next)) h (k₃ ∙ (k₂ ∙ k₁))
+      pub fits₄ : (d : ℕ) → length a + length b + length c + d ≤ n → Fits p₃ d out₃
+      fits₄ d h = fits-part at n out f p₃ (length a + length b + length c) d out₃ (omega (arith, x₁ .next, x₂ .next, x₃ .next)) h (k₃ ∙ (k₂ ∙ k₁))
 
-      pub wrote₄ : (d out₄ : List ℕ) (p₄ : ℕ) → Wrote write p₃ d out₃ out₄ p₄ → Wrote write at (((a ++ b) ++ c) ++ d) out out₄ p₄
-      wrote₄ d out₄ p₄ x₄ = and-then write at ((a ++ b) ++ c) d out out₃ out₄ p₃ p₄ n f wrote₃ x₄
+      pub wrote₄ : (d out₄ : List ℕ) (p₄ : ℕ) → Wrote p₃ d out₃ out₄ p₄ → Wrote at (((a ++ b) ++ c) ++ d) out out₄ p₄
+      wrote₄ d out₄ p₄ x₄ = and-then at ((a ++ b) ++ c) d out out₃ out₄ p₃ p₄ n f wrote₃ x₄
 
-pub as-bytes : (write : Bool) (at : ℕ) (a b out out' : List ℕ) (r : ℕ) → a ≡ b → Wrote write at a out out' r → Wrote write at b out out' r
-as-bytes write at a b out out' r e w = subst (λ (x : List ℕ). Wrote write at x out out' r) e w
+pub as-bytes : (at : ℕ) (a b out out' : List ℕ) (r : ℕ) → a ≡ b → Wrote at a out out' r → Wrote at b out out' r
+as-bytes at a b out out' r e w = subst (λ (x : List ℕ). Wrote at x out out' r) e w
 
 -- ---- lengths
 pub two-small : (n : ℕ) → n < 10 → two n ≡ digit n ∷ []

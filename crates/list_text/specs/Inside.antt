@@ -3,7 +3,6 @@
 use Prim.Native.Nat.{ℕ, _+_, _≤_, _<_}
 use mathlib.Core.Path.{_≡_}
 use mathlib.Core.List.{List, [], _∷_, _++_}
-use mathlib.Core.Bool.{Bool, true, false}
 use lib.ListN.{length, getD, take, drop}
 use Rattle.lists.specs.declared.Header.{Header}
 use Rattle.numbers.specs.Written.{written, Most}
@@ -14,24 +13,18 @@ use Rattle.list_laws.specs.Written.{cyclesNumbers, Obeys, file}
 use Rattle.list_text.specs.Text.{wordLines, subcycleLines, cycleLines, textOf}
 use Rattle.periods.specs.Inside.{CycleHere, SplitHere, IsList}
 
--- the lent bytes with some bytes written at a place; or as they were
-abbrev pub wroteIf : Bool → ℕ → List ℕ → List ℕ → List ℕ
-wroteIf true at bytes out = take at out ++ (bytes ++ drop (at + length bytes) out)
-wroteIf false at bytes out = out
+-- the lent bytes with some bytes written at a place
+abbrev pub wroteAt : ℕ → List ℕ → List ℕ → List ℕ
+wroteAt at bytes out = take at out ++ (bytes ++ drop (at + length bytes) out)
 
--- some bytes were counted from a place on, and written there if so said
-pub record Wrote (write : Bool) (at : ℕ) (bytes out out' : List ℕ) (r : ℕ) : Type 0 where
+-- some bytes were written at a place
+pub record Wrote (at : ℕ) (bytes out out' : List ℕ) (r : ℕ) : Type 0 where
   pub next : r ≡ at + length bytes
-  pub out-is : out' ≡ wroteIf write at bytes out
+  pub out-is : out' ≡ wroteAt at bytes out
 
--- there is room for n bytes, where they are written
-abbrev pub RoomIf : Bool → ℕ → List ℕ → Type 0
-RoomIf true n out = n ≤ length out
-RoomIf false n out = Unit {0}
-
--- n bytes more can be counted, and written if so said
-pub record Fits (write : Bool) (at n : ℕ) (out : List ℕ) : Type 0 where
-  pub room : RoomIf write (at + n) out
+-- there is room for n bytes at a place
+pub record Fits (at n : ℕ) (out : List ℕ) : Type 0 where
+  pub room : at + n ≤ length out
   pub small : at + n ≤ 100000
 
 -- so many words stand at a place, then other bytes, and the words' lines fit
@@ -41,11 +34,11 @@ pub record WordsHere (s : List ℕ) (at many cycle sub to : ℕ) (out : List ℕ
   pub long : length words ≡ many
   pub most : Most words
   pub bytes : drop at s ≡ written words ++ rest
-  pub fits : Fits true to (length (wordLines cycle sub words)) out
+  pub fits : Fits to (length (wordLines cycle sub words)) out
 
 -- some lines were written, and the list was read as far as the bytes after them
 abbrev pub LinesPut : List ℕ → ℕ → List ℕ → List ℕ → List ℕ → List ℕ → ℕ → ℕ → Type 0
-LinesPut s to lines rest out out' r next = Wrote true to lines out out' r × (drop next s ≡ rest)
+LinesPut s to lines rest out out' r next = Wrote to lines out out' r × (drop next s ≡ rest)
 
 -- the lines of a cycle
 abbrev pub linesOf : ℕ → Cycle → List ℕ
@@ -64,13 +57,13 @@ pub record SplitFits (s : List ℕ) (at splits size to : ℕ) (out : List ℕ) :
   pub count : ℕ
   pub here : SplitHere s at count size
   pub known : SplitsAt s splits (here .c) (here .rest)
-  pub fits : Fits true to (length (linesOf size (here .c))) out
+  pub fits : Fits to (length (linesOf size (here .c))) out
 
 -- a cycle stands at a place, its split numbers at another, and its lines fit
 pub record CycleFits (s : List ℕ) (at splits size to : ℕ) (out : List ℕ) : Type 0 where
   pub here : CycleHere s at size
   pub known : SplitsAt s splits (here .c) (here .rest)
-  pub fits : Fits true to (length (linesOf size (here .c))) out
+  pub fits : Fits to (length (linesOf size (here .c))) out
 
 -- the split numbers of the first of these cycles, so many, begin at their places
 abbrev pub SplitsBegin : ℕ → List ℕ → List Cycle → List ℕ → Type 0
@@ -89,11 +82,11 @@ CyclesMeasured s ms splits r = SplitsKnown s ms splits × ((l : PeriodicList) �
 pub record CyclesHere (s : List ℕ) (ms : ℕ) (splits : List ℕ) (at : ℕ) (out : List ℕ) : Type 0 where
   pub known : IsList s ms
   pub places : SplitsKnown s ms splits
-  pub fits : Fits true at (length (cycleLines 0 (known .l .cycles))) out
+  pub fits : Fits at (length (cycleLines 0 (known .l .cycles))) out
 
 -- the lines of all cycles of the list in these bytes were written
 abbrev pub CyclesWrote : List ℕ → ℕ → List ℕ → List ℕ → ℕ → Type 0
-CyclesWrote s at out out' r = (l : PeriodicList) → Obeys l → file l ≡ s → Wrote true at (cycleLines 0 (l .cycles)) out out' r
+CyclesWrote s at out out' r = (l : PeriodicList) → Obeys l → file l ≡ s → Wrote at (cycleLines 0 (l .cycles)) out out' r
 
 -- the bytes are the file of a list that obeys the rules, with this header and so many words
 pub record ListHere (s : List ℕ) (h : Header) (words : ℕ) : Type 0 where
@@ -104,8 +97,8 @@ pub record ListHere (s : List ℕ) (h : Header) (words : ℕ) : Type 0 where
 
 -- the text of the list that is written so fits
 abbrev pub TextFits : List ℕ → List ℕ → Type 0
-TextFits s out = (l : PeriodicList) → Obeys l → file l ≡ s → Fits true 0 (length (textOf (took l []))) out
+TextFits s out = (l : PeriodicList) → Obeys l → file l ≡ s → Fits 0 (length (textOf (took l []))) out
 
 -- the whole text of the list in these bytes was written
 abbrev pub TextWrote : List ℕ → List ℕ → List ℕ → ℕ → Type 0
-TextWrote s out out' r = (l : PeriodicList) → Obeys l → file l ≡ s → Wrote true 0 (textOf (took l [])) out out' r
+TextWrote s out out' r = (l : PeriodicList) → Obeys l → file l ≡ s → Wrote 0 (textOf (took l [])) out out' r

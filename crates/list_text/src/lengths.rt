@@ -4,11 +4,10 @@ use lists::Header;
 use lists::cycles_of;
 use numbers::sum_numbers;
 ghost use mathlib.Core.Path.{_≡_};
-ghost use mathlib.Core.List.{List};
-ghost use Prim.Native.Nat.{ℕ, _≤_, _<_};
+ghost use Prim.Native.Nat.{_≤_};
 ghost use lib.ListN.{length};
 ghost use Rattle.periods.specs.Inside.{CycleHere, SplitHere, IsList};
-ghost use Rattle.list_text.specs.Text.{decimal, headerLine, wordLine};
+ghost use Rattle.list_text.specs.Text.{decimal, headerLine, wordLine, refusedLine};
 ghost use Rattle.list_text.specs.Inside.{CycleMeasured, CyclesMeasured};
 
 // Where the split numbers of a cycle begin, the place after the cycle, and how long its lines are.
@@ -35,7 +34,7 @@ fn digits(n: u16) -> usize
 }
 
 pub(crate) fn header_length(head: Header, words: u16) -> usize
-    ensures { λ r. ⌜ (r ≡ length (headerLine (head .ms) (head .gap) (head .reserve) words)) × (r ≤ 20) ⌝ }
+    ensures { λ r. ⌜ r ≡ length (headerLine (head .ms) (head .gap) (head .reserve) words) ⌝ }
 {
     let a = digits(head.ms);
     let b = digits(head.gap);
@@ -44,9 +43,16 @@ pub(crate) fn header_length(head: Header, words: u16) -> usize
     a + b + c + d + 4
 }
 
+pub(crate) fn refused_length(n: u16) -> usize
+    ensures { λ r. ⌜ r ≡ length (refusedLine n) ⌝ }
+{
+    let a = digits(n);
+    a + 9
+}
+
 // The length of each line of a Subcycle.
 fn line_length(cycle: u16, sub: u16) -> usize
-    ensures { λ r. ⌜ (r ≡ length (wordLine cycle sub 0)) × (r ≤ 15) ⌝ }
+    ensures { λ r. ⌜ r ≡ length (wordLine cycle sub 0) ⌝ }
 {
     let a = digits(cycle);
     let b = digits(sub);

@@ -5,6 +5,7 @@ mod numerals;
 
 use crate::lengths::header_length;
 use crate::lengths::measure_cycles;
+use crate::lengths::refused_length;
 use crate::lines::put_list;
 use crate::numerals::put_refused;
 use lists::Header;
@@ -35,11 +36,10 @@ fn refused_text(list: &[u8], n: Refusal, out: &mut [u8]) -> Text
         × (now (out .exit) ≡ textBy (now (list .entry)) (length (now (out .entry))) (λ m. now (out .entry)) (λ t. t ++ drop (length t) (now (out .entry)))) ⌝ }
 {
     let m = n.number() as u16;
-    let k = put_refused(out, 0, m, false);
-    if out.len() < k {
+    if out.len() < refused_length(m) {
         return Text::Refused(Refusal::TooShort);
     }
-    let written = put_refused(out, 0, m, true);
+    let written = put_refused(out, 0, m);
     Text::Bytes(written)
 }
 

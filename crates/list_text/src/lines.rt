@@ -4,9 +4,7 @@ use crate::numerals::put_line;
 use lists::Header;
 use lists::cycles_of;
 use numbers::sum_numbers;
-ghost use mathlib.Core.Path.{_≡_};
-ghost use mathlib.Core.List.{List};
-ghost use Prim.Native.Nat.{ℕ, _<_};
+ghost use Prim.Native.Nat.{_<_};
 ghost use Rattle.list_text.specs.Text.{wordLines};
 ghost use Rattle.list_text.specs.Inside.{WordsHere, LinesPut, linesOf, SplitFits, CycleFits, SplitsKnown, CyclesHere, CyclesWrote, ListHere, TextFits, TextWrote};
 
@@ -35,7 +33,7 @@ fn put_lines(
     let mut i: usize = 0;
     while i < many {
         let w = sum_numbers(list, p, 1);
-        q = put_line(out, q, cycle, sub, w.total as u16, true);
+        q = put_line(out, q, cycle, sub, w.total as u16);
         p = w.next;
         i += 1;
     }
@@ -113,6 +111,6 @@ pub(crate) fn put_list(
     ensures { λ r. ⌜ TextWrote (now (list .entry)) (now (out .entry)) (now (out .exit)) r ⌝ }
 {
     let ms = head.ms;
-    let a = put_header(out, 0, ms, head.gap, head.reserve, words as u16, true);
+    let a = put_header(out, 0, ms, head.gap, head.reserve, words as u16);
     put_cycles(list, ms, splits, out, a)
 }

@@ -11,10 +11,10 @@ cast-count : tie.Need-cast-count
 cast-count c = omega (arith, count-small (c .before .before .before .args .list .now) (c .before .before .before .args .at) (c .before .before .before .args .size) (c .before .before .before .pre) _ _ (c .before .sum-numbers .ensures))
 
 mul-t9 : tie.Need-mul-t9
-mul-t9 c = record { fits = omega (arith, one-small (c .before .before .before .before .before .before .before .args .list .now) (c .before .before .before .before .before .before .before .args .at) (c .before .before .before .before .before .before .before .args .size) (c .before .before .before .before .before .before .before .pre) _ _ (c .before .before .before .before .before .sum-numbers .ensures) (c .before .before .before .if1 .taken) _ (c .before .line-length .ensures .0)) }
+mul-t9 c = record { fits = omega (arith, one-small (c .before .before .before .before .before .before .before .args .list .now) (c .before .before .before .before .before .before .before .args .at) (c .before .before .before .before .before .before .before .args .size) (c .before .before .before .before .before .before .before .pre) _ _ (c .before .before .before .before .before .sum-numbers .ensures) (c .before .before .before .if1 .taken) _ (c .before .line-length .ensures)) }
 
 returns : tie.Need-returns
-returns c h = measured-one (c .before .before .before .before .before .before .before .args .list .now) (c .before .before .before .before .before .before .before .args .at) (c .before .before .before .before .before .before .before .args .size) h _ _ (c .before .before .before .before .before .sum-numbers .ensures) (c .before .before .before .if1 .taken) _ (c .before .line-length .ensures .0) _ _ (c .before .before .sum-numbers2 .ensures)
+returns c h = measured-one (c .before .before .before .before .before .before .before .args .list .now) (c .before .before .before .before .before .before .before .args .at) (c .before .before .before .before .before .before .before .args .size) h _ _ (c .before .before .before .before .before .sum-numbers .ensures) (c .before .before .before .if1 .taken) _ (c .before .line-length .ensures) _ _ (c .before .before .sum-numbers2 .ensures)
 
 returns-2 : tie.Need-returns-2
 returns-2 c h = measured-none (c .before .before .before .before .before .args .list .now) (c .before .before .before .before .before .args .at) (c .before .before .before .before .before .args .size) h _ _ (c .before .before .before .sum-numbers .ensures) (c .if2 .taken)
