@@ -50,29 +50,14 @@ const ROWS: [[u16; 4]; 16] = [
     [16, 3, 33, 1],
 ];
 
-// The row of an F_code; of zeros above 15, as of a reserved one. With an index that is a constant no copy of the table is made.
+// The row of an F_code; of zeros above 15, as of a reserved one.
 pub fn row_of(f_code: u8) -> [u16; 4]
     ensures { λ r. ⌜ r ≡ rowOf «f_code» ⌝ }
 {
-    match f_code {
-        0 => ROWS[0],
-        1 => ROWS[1],
-        2 => ROWS[2],
-        3 => ROWS[3],
-        4 => ROWS[4],
-        5 => ROWS[5],
-        6 => ROWS[6],
-        7 => ROWS[7],
-        8 => ROWS[8],
-        9 => ROWS[9],
-        10 => ROWS[10],
-        11 => ROWS[11],
-        12 => ROWS[12],
-        13 => ROWS[13],
-        14 => ROWS[14],
-        15 => ROWS[15],
-        _ => [0, 0, 0, 0],
+    if 15 < f_code {
+        return [0, 0, 0, 0];
     }
+    ROWS[f_code as usize]
 }
 
 // Reads a Master Frame: a word and its check sequence.
