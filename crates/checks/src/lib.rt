@@ -37,7 +37,7 @@ fn folded(high: u64, low: u64) -> u64
     ((v << 41) >> 41) ^ top ^ (top << 1) ^ (top << 2)
 }
 
-// Eight bytes in a number, the lowest first: from which one on.
+// Eight bytes in a number, those before a place cut off: the byte at the place is the lowest.
 fn from_byte(eight: u64, place: u64) -> u64
     requires { ⌜ place < 8 ⌝ }
     ensures { λ r. ⌜ r ≡ eight / 2 ^ (8 * place) ⌝ }

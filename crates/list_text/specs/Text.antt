@@ -64,8 +64,7 @@ abbrev pub cycleLines : ℕ → List Cycle → List ℕ
 cycleLines n [] = []
 cycleLines n (c ∷ cs) = subcycleLines (2 ^ n) 0 (subcycles (c .words) (c .splits)) ++ cycleLines (suc n) cs
 
--- `prints "refused", a space and the number, or a header, then per word`; "each line ends with a newline"
--- the word "refused", a space and the number
+-- "refused", a space and the number; "each line ends with a newline"
 unfoldable pub refusedLine : ℕ → List ℕ
 refusedLine n = ((114 ∷ 101 ∷ 102 ∷ 117 ∷ []) ++ 115 ∷ 101 ∷ 100 ∷ space ∷ []) ++ field n newline
 
