@@ -10,7 +10,7 @@ use lib.ListN.{length, drop}
 use borrow.Author.Tests.{lt-ltb, le-ltb, le-leb}
 use Rattle.refusals.specs.Told.{gives, refusal}
 use Rattle.frames.specs.Words.{fCode}
-use Rattle.frames.specs.Rows.{reserved, dataBytes, frameBytes}
+use Rattle.rows.specs.Rows.{reserved, dataBytes, frameBytes}
 use Rattle.frames.specs.Master.{masterFrame, masterWrite, masterWriteOut}
 use Rattle.frames.specs.Slave.{slaveFrame, slaveWrite, slaveWriteOut}
 use Rattle.frames.proofs.Order.{write-done}

@@ -11,7 +11,7 @@ use Rattle.refusals.specs.declared.Refusal.the-variants.{OutOfRange, Impossible
 use Rattle.refusals.specs.Refusals.{numberOf}
 use Rattle.refusals.specs.Told.{Told, gives, refusal, refusing}
 use Rattle.frames.specs.Words.{fCode, wordIn}
-use Rattle.frames.specs.Rows.{reserved, dataBytes, blocks, blockBytes, frameBytes}
+use Rattle.rows.specs.Rows.{reserved, dataBytes, blocks, blockBytes, frameBytes}
 use Rattle.frames.specs.Blocks.{allRight}
 use Rattle.frames.specs.Master.{masterRead, masterWrite, masterWriteOut}
 use Rattle.frames.specs.Slave.{slaveRead, slaveReadOut, slaveWrite, slaveWriteOut}

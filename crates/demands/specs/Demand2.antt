@@ -15,7 +15,7 @@ use Rattle.refusals.specs.Told.{gives, refusal}
 use Rattle.checks.specs.Bits.{bitsOf}
 use Rattle.checks.specs.Distance.{differing}
 use Rattle.frames.specs.Words.{fCode, address}
-use Rattle.frames.specs.Rows.{reserved, dataBytes, frameBytes}
+use Rattle.rows.specs.Rows.{reserved, dataBytes, frameBytes}
 use Rattle.frames.specs.Master.{masterFrame, masterRead, masterWrite, masterWriteOut}
 use Rattle.frames.specs.Slave.{slaveFrame, slaveData, slaveRead, slaveReadOut, slaveWrite, slaveWriteOut}
 use Rattle.frames.specs.Accepted.{Accepted, blockCount, blockSize, blockAt}

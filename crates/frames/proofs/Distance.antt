@@ -18,10 +18,10 @@ use Rattle.checks.specs.Check.{checkOf}
 use Rattle.checks.specs.Distance.{differing}
 use Rattle.checks.proofs.Numbers.{length-bits, length-bitsOf, number-byte, bitsOf-snoc}
 use Rattle.checks.proofs.Distance.{apart, check-bits}
-use Rattle.frames.specs.Rows.{dataBits, dataBytes, blocks, blockBytes}
+use Rattle.rows.specs.Rows.{dataBits, dataBytes, blocks, blockBytes}
 use Rattle.frames.specs.Blocks.{rightBlocks}
 use Rattle.frames.specs.Accepted.{Accepted, master, slave, blockCount, blockSize, blockAt}
-use Rattle.frames.proofs.Rows.{whole, block-most, same-shape}
+use Rattle.rows.proofs.Rows.{whole, block-most, same-shape}
 use Rattle.frames.proofs.RoundTrip.{empty, right-split, bytes-first, slave-accepted, master-accepted}
 
 -- bytes are known by their bits

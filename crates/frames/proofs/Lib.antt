@@ -1,4 +1,3 @@
-pub mod Rows
 pub mod BlockLaws
 pub mod Turns
 pub mod WordLaws

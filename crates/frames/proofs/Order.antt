@@ -10,14 +10,14 @@ use lib.Dec.{eqb}
 use lib.ListN.{length, drop}
 use Rattle.refusals.specs.Told.{Told, gives, refusal}
 use Rattle.frames.specs.Words.{fCode, wordIn, wordBytes}
-use Rattle.frames.specs.Rows.{reserved, dataBytes, blocks, blockBytes, frameBytes}
+use Rattle.rows.specs.Rows.{reserved, dataBytes, blocks, blockBytes, frameBytes}
 use Rattle.frames.specs.Blocks.{rightBlocks, dataIn, framed}
 use Rattle.frames.specs.Master.{masterFrame, masterRead, masterWriteBy, masterWrite, masterWriteOut}
 use Rattle.frames.specs.Slave.{slaveFrame, slaveData, slaveReadBy, slaveRead, slaveReadOut, slaveWriteBy, slaveWrite, slaveWriteOut}
 use Rattle.frames.specs.Answers.{toldLine}
 use Rattle.frames.specs.Line.{answerOf, lineAnswer}
 use Rattle.frames.specs.declared.LineAnswer.the-variants.{Silence, Reply, Collision}
-use Rattle.frames.proofs.Rows.{full, whole}
+use Rattle.rows.proofs.Rows.{full, whole}
 
 -- ---- what the code's test of `allowed` shows
 

@@ -15,11 +15,11 @@ use lib.Seq.{take-at, drop-at, getD-at, drop-drop, length-take-le, split-at, tak
 use Rattle.checks.specs.Check.{checkOf}
 use Rattle.refusals.specs.Told.{Told, gives, refused, refusal}
 use Rattle.frames.specs.Words.{fCode, wordIn, wordBytes}
-use Rattle.frames.specs.Rows.{reserved, dataBytes, blocks, blockBytes, frameBytes}
+use Rattle.rows.specs.Rows.{reserved, dataBytes, blocks, blockBytes, frameBytes}
 use Rattle.frames.specs.Blocks.{framed, dataIn, rightBlocks}
 use Rattle.frames.specs.Master.{masterFrame, masterRead, masterWriteBy, masterWrite, masterWriteOut}
 use Rattle.frames.specs.Slave.{slaveFrame, slaveData, slaveReadBy, slaveRead, slaveReadOut, slaveWriteBy, slaveWrite, slaveWriteOut}
-use Rattle.frames.proofs.Rows.{full, whole}
+use Rattle.rows.proofs.Rows.{full, whole}
 use Rattle.frames.proofs.Order.{read-done, write-done}
 
 -- ---- blocks

@@ -5,10 +5,10 @@ use mathlib.Core.List.{List, [], _∷_}
 use Prim.Native.Nat.{ℕ, _/_, _≤_}
 use native.Mathlib.Omega.{arith}
 use Rattle.refusals.specs.Told.{gives}
-use Rattle.frames.specs.Rows.{dataBits, dataBytes, frameBytes}
+use Rattle.rows.specs.Rows.{dataBits, dataBytes, frameBytes}
 use Rattle.frames.specs.Master.{masterWrite}
 use Rattle.frames.specs.Slave.{slaveRead, slaveWrite}
-use Rattle.frames.proofs.Rows.{bits-most, whole-most}
+use Rattle.rows.proofs.Rows.{bits-most, whole-most}
 use Rattle.frames.proofs.RoundTrip.{slave-accepted, slave-written, master-written}
 
 pub slave-read-most : (f : ℕ) (w : List ℕ) (room n : ℕ) → slaveRead f w room ≡ gives (n ∷ []) → n ≤ 32

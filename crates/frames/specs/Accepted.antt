@@ -5,7 +5,7 @@ use mathlib.Core.List.{List, [], _∷_}
 use Prim.Native.Nat.{ℕ, _+_, _*_}
 use lib.ListN.{take, drop}
 use Rattle.refusals.specs.Told.{gives}
-use Rattle.frames.specs.Rows.{blocks, blockBytes}
+use Rattle.rows.specs.Rows.{blocks, blockBytes}
 use Rattle.frames.specs.Master.{masterRead}
 use Rattle.frames.specs.Slave.{slaveRead}
 

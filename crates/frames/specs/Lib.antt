@@ -1,5 +1,4 @@
 pub mod Words
-pub mod Rows
 pub mod Blocks
 pub mod Master
 pub mod Slave

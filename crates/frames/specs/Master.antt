@@ -7,7 +7,7 @@ use lib.Dec.{eqb, ltb}
 use lib.ListN.{length, drop}
 use Rattle.refusals.specs.Told.{Told, gives, refusal}
 use Rattle.frames.specs.Words.{fCode, wordBytes, wordIn}
-use Rattle.frames.specs.Rows.{reserved}
+use Rattle.rows.specs.Rows.{reserved}
 use Rattle.frames.specs.Blocks.{framed, allRight}
 
 -- "A Master Frame is one word and its check sequence, 3 bytes"

@@ -6,7 +6,7 @@ use Prim.Native.Nat.{ℕ}
 use lib.Dec.{eqb, ltb}
 use lib.ListN.{length, drop}
 use Rattle.refusals.specs.Told.{Told, gives, refusal}
-use Rattle.frames.specs.Rows.{reserved, dataBytes, blocks, blockBytes, frameBytes}
+use Rattle.rows.specs.Rows.{reserved, dataBytes, blocks, blockBytes, frameBytes}
 use Rattle.frames.specs.Blocks.{framed, dataIn, allRight}
 
 -- "A Slave Frame carries data sent in blocks of at most 64 bits, each followed by its check sequence"

@@ -5,7 +5,6 @@ mod shapes;
 use refusals::Refusal;
 ghost use mathlib.Core.Path.{_≡_};
 ghost use lib.ListN.{length};
-ghost use Rattle.frames.specs.Rows.{rowOf};
 ghost use Rattle.frames.specs.Master.{masterRead, masterWrite, masterWriteOut};
 ghost use Rattle.frames.specs.Slave.{slaveRead, slaveReadOut, slaveWrite, slaveWriteOut};
 ghost use Rattle.frames.specs.Line.{lineAnswer};
@@ -28,36 +27,6 @@ pub enum LineAnswer {
     Silence,
     Reply(u16),
     Collision,
-}
-
-// The one table of rows. By F_code: data bits, frame bytes, bits on the line, allowed.
-const ROWS: [[u16; 4]; 16] = [
-    [16, 3, 33, 1],
-    [32, 5, 49, 1],
-    [64, 9, 81, 1],
-    [128, 18, 153, 1],
-    [256, 36, 297, 1],
-    [0, 0, 0, 0],
-    [0, 0, 0, 0],
-    [0, 0, 0, 0],
-    [16, 3, 33, 1],
-    [16, 3, 33, 1],
-    [0, 0, 0, 0],
-    [0, 0, 0, 0],
-    [256, 36, 297, 1],
-    [16, 3, 33, 1],
-    [16, 3, 33, 1],
-    [16, 3, 33, 1],
-];
-
-// The row of an F_code; of zeros above 15, as of a reserved one.
-pub fn row_of(f_code: u8) -> [u16; 4]
-    ensures { λ r. ⌜ r ≡ rowOf «f_code» ⌝ }
-{
-    if 15 < f_code {
-        return [0, 0, 0, 0];
-    }
-    ROWS[f_code as usize]
 }
 
 // Reads a Master Frame: a word and its check sequence.

@@ -4,7 +4,7 @@ ghost use mathlib.Core.Bool.{not};
 ghost use mathlib.Core.List.{[], _∷_};
 ghost use Prim.Native.Nat.{_+_, _*_};
 ghost use Rattle.frames.specs.Words.{fCode};
-ghost use Rattle.frames.specs.Rows.{reserved, dataBytes, blocks, blockBytes, frameBytes};
+ghost use Rattle.rows.specs.Rows.{reserved, dataBytes, blocks, blockBytes, frameBytes};
 
 pub(crate) struct Shape {
     pub(crate) allowed: bool,
@@ -29,7 +29,7 @@ pub(crate) fn f_code_of(word: u16) -> u8
 pub(crate) fn allowed(f_code: u8) -> bool
     ensures { λ r. ⌜ r ≡ not (reserved «f_code») ⌝ }
 {
-    let row = crate::row_of(f_code);
+    let row = rows::row_of(f_code);
     row[3] == 1
 }
 
@@ -37,7 +37,7 @@ pub(crate) fn allowed(f_code: u8) -> bool
 pub(crate) fn shape_of(f_code: u8) -> Shape
     ensures { λ r. ⌜ (r .allowed ≡ not (reserved «f_code»)) × (r .«data» ≡ dataBytes «f_code») × (r .whole ≡ frameBytes «f_code») × (r .blocks ≡ blocks «f_code») × (r .size ≡ blockBytes «f_code») ⌝ }
 {
-    let row = crate::row_of(f_code);
+    let row = rows::row_of(f_code);
     let data = (row[0] / 8) as usize;
     let whole = row[1] as usize;
     Shape {

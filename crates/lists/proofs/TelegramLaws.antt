@@ -10,7 +10,7 @@ use lib.Dec.{ltb, eqb}
 use Rattle.refusals.specs.declared.Refusal.{Refusal}
 use Rattle.refusals.specs.Told.{Told, gives, refusing}
 use Rattle.refusals.proofs.Apart.{never-both}
-use Rattle.frames.specs.Rows.{reserved, dataBits, dataBytes, blocks, frameBytes, lineBits}
+use Rattle.rows.specs.Rows.{reserved, dataBits, dataBytes, blocks, frameBytes, lineBits}
 use Rattle.timing.specs.Timing.{telegramBits, telegramAnswer}
 use Rattle.lists.specs.Inside.{Listable}
 

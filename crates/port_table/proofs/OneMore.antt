@@ -9,8 +9,8 @@ use native.Mathlib.Omega.{arith}
 use borrow.Author.Tests.{lt-ltb, le-leb, leb-true, ltb-true}
 use lib.Dec.{eqb, ltb, leb}
 use lib.ListN.{length, length-append}
-use Rattle.frames.specs.Rows.{dataBytes}
-use Rattle.frames.proofs.Rows.{bits-most}
+use Rattle.rows.specs.Rows.{dataBytes}
+use Rattle.rows.proofs.Rows.{bits-most}
 use Rattle.port_table.specs.declared.Port.{Port}
 use Rattle.port_table.specs.Table.{rising, good, portBytes, tableBytes, before, placeOf}
 use Rattle.port_table.specs.Seen.{nextFrom, mark, marksFrom}

@@ -10,7 +10,7 @@ use borrow.Author.Tests.{eqb-true}
 use lib.Dec.{eqb}
 use lib.ListN.{length, getD, take, drop}
 use lib.Seq.{split-at, take-take, getD-take, take-suc, length-take-le}
-use Rattle.frames.specs.Rows.{dataBytes}
+use Rattle.rows.specs.Rows.{dataBytes}
 use Rattle.port_table.specs.declared.Port.{Port}
 use Rattle.port_table.specs.declared.Seen.{Seen}
 use Rattle.port_table.specs.Table.{good, portBytes, tableBytes, before, placeOf, offsetOf, portOf, noPort}

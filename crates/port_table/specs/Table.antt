@@ -5,7 +5,7 @@ use mathlib.Core.List.{List, [], _∷_}
 use Prim.Native.Nat.{ℕ, _+_}
 use lib.Dec.{eqb, ltb, leb}
 use lib.ListN.{length, getD}
-use Rattle.frames.specs.Rows.{dataBytes}
+use Rattle.rows.specs.Rows.{dataBytes}
 use Rattle.port_table.specs.declared.Port.{Port}
 
 -- "addresses below 4,096 strictly rising, F_codes 0 to 4": each address at least `low`, the next one higher

@@ -5,7 +5,7 @@ use crate::Seen;
 ghost use mathlib.Core.Path.{_≡_};
 ghost use mathlib.Core.Bool.{true};
 ghost use Prim.Native.Nat.{_+_, _*_, _/_, _%_, _^_, _<_};
-ghost use Rattle.frames.specs.Rows.{dataBytes};
+ghost use Rattle.rows.specs.Rows.{dataBytes};
 ghost use Rattle.port_table.specs.Seen.{emptySeen, markOf, mark};
 ghost use Rattle.port_table.specs.Inside.{fits, placeAfter, Walked, WalkedOn};
 

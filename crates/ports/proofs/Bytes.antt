@@ -8,7 +8,7 @@ use borrow.Rule.Slice.PartMut.{putMid}
 use mathlib.Core.Bool.{not, false}
 use lib.ListN.{length, length-append, getD, take, drop, length-drop, drop-of-length-le, List·getD-append}
 use lib.Seq.{take-all, take-length, take-at, drop-at, drop-drop, length-take-le, getD-take, getD-drop, getD-append-add}
-use Rattle.frames.specs.Rows.{dataBytes}
+use Rattle.rows.specs.Rows.{dataBytes}
 use Rattle.port_table.specs.declared.Seen.{Seen}
 use Rattle.port_table.specs.Inside.{Walked}
 use Rattle.port_table.proofs.OneMore.{bytes-most, good-split}

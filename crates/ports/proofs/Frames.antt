@@ -17,11 +17,11 @@ use Rattle.refusals.proofs.Apart.{never-both}
 use Rattle.frames.specs.declared.Wrote.{Wrote}
 use Rattle.frames.specs.declared.Wrote.the-variants as Wrote'
 use Rattle.frames.specs.Answers.{toldWrote}
-use Rattle.frames.specs.Rows.{dataBits, reserved, dataBytes, blocks, blockBytes, frameBytes}
+use Rattle.rows.specs.Rows.{dataBits, reserved, dataBytes, blocks, blockBytes, frameBytes}
 use Rattle.frames.specs.Blocks.{dataIn, allRight, rightBlocks}
 use Rattle.frames.specs.Slave.{slaveData, slaveFrame, slaveRead, slaveReadOut, slaveWrite, slaveWriteOut}
 use Rattle.frames.proofs.Order.{read-done}
-use Rattle.frames.proofs.Rows.{full, whole, whole-most}
+use Rattle.rows.proofs.Rows.{full, whole, whole-most}
 use Rattle.frames.proofs.RoundTrip.{slave-accepted}
 use Rattle.port_table.proofs.OneMore.{size-most}
 

@@ -15,8 +15,8 @@ use Rattle.refusals.specs.Refusals.{numberOf}
 use Rattle.refusals.specs.Codes.{codeOf, toldCode}
 use Rattle.refusals.proofs.Codes.{value-told, refusal-told}
 use Rattle.frames.specs.Words.{fCode, address}
-use Rattle.frames.specs.Rows.{dataBytes, frameBytes}
-use Rattle.frames.proofs.Rows.{whole-most}
+use Rattle.rows.specs.Rows.{dataBytes, frameBytes}
+use Rattle.rows.proofs.Rows.{whole-most}
 use Rattle.frames.specs.Slave.{slaveData, slaveFrame, slaveRead, slaveReadOut, slaveWrite, slaveWriteOut}
 use Rattle.port_table.specs.declared.Port.{Port}
 use Rattle.port_table.specs.declared.Seen.{Seen}

@@ -10,7 +10,7 @@ use lib.Dec.{eqb, ltb}
 use lib.ListN.{length}
 use Rattle.refusals.specs.Told.{gives, refused, refusal}
 use Rattle.frames.specs.Words.{fCode, address}
-use Rattle.frames.specs.Rows.{frameBytes, blocks, blockBytes}
+use Rattle.rows.specs.Rows.{frameBytes, blocks, blockBytes}
 use Rattle.frames.specs.Blocks.{rightBlocks, allRight}
 use Rattle.port_table.specs.declared.Port.{Port}
 use Rattle.port_table.specs.Table.{good, portBytes, tableBytes, placeOf, listed, portOf, isSink}

@@ -11,7 +11,7 @@ use lib.ListN.{length, getD, take, drop, length-set, length-drop}
 use lib.Seq.{getD-set-same, getD-set-other, ext-getD, getD-take, getD-drop, length-take-le}
 use Rattle.refusals.specs.Told.{gives}
 use Rattle.frames.specs.Words.{fCode, address}
-use Rattle.frames.specs.Rows.{dataBytes}
+use Rattle.rows.specs.Rows.{dataBytes}
 use Rattle.frames.specs.Slave.{slaveData}
 use Rattle.port_table.specs.declared.Port.{Port}
 use Rattle.port_table.specs.Table.{portBytes, tableBytes, placeOf, offsetOf, portOf}

@@ -11,7 +11,7 @@ use lib.ListN.{length, take, drop}
 use lib.Seq.{take-at}
 use Rattle.refusals.specs.Told.{gives, refusal}
 use Rattle.frames.specs.Words.{fCode, address}
-use Rattle.frames.specs.Rows.{dataBytes, frameBytes, blocks, blockBytes}
+use Rattle.rows.specs.Rows.{dataBytes, frameBytes, blocks, blockBytes}
 use Rattle.frames.specs.Blocks.{rightBlocks}
 use Rattle.frames.specs.Slave.{slaveFrame, slaveData, slaveRead, slaveReadOut, slaveWrite, slaveWriteOut}
 use Rattle.frames.proofs.Order.{write-done}

@@ -7,7 +7,7 @@ use lib.Dec.{eqb, ltb}
 use lib.ListN.{length, drop}
 use Rattle.refusals.specs.Told.{Told}
 use Rattle.frames.specs.Words.{fCode, address}
-use Rattle.frames.specs.Rows.{frameBytes}
+use Rattle.rows.specs.Rows.{frameBytes}
 use Rattle.frames.specs.Slave.{slaveFrame}
 use Rattle.port_table.specs.declared.Port.{Port}
 use Rattle.port_table.specs.Table.{good, tableBytes, listed, portOf, isSink}

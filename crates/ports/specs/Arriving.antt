@@ -7,7 +7,7 @@ use lib.Dec.{eqb, ltb}
 use lib.ListN.{length, set}
 use Rattle.refusals.specs.Told.{Told}
 use Rattle.frames.specs.Words.{fCode, address}
-use Rattle.frames.specs.Rows.{frameBytes, blocks, blockBytes}
+use Rattle.rows.specs.Rows.{frameBytes, blocks, blockBytes}
 use Rattle.frames.specs.Blocks.{allRight}
 use Rattle.frames.specs.Slave.{slaveData}
 use Rattle.port_table.specs.declared.Port.{Port}

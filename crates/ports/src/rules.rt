@@ -6,7 +6,7 @@ ghost use mathlib.Core.Path.{_≡_};
 ghost use Prim.Native.Nat.{_+_, _<_, _≤_};
 ghost use lib.ListN.{length};
 ghost use Rattle.frames.specs.Words.{fCode, address};
-ghost use Rattle.frames.specs.Rows.{dataBytes};
+ghost use Rattle.rows.specs.Rows.{dataBytes};
 ghost use Rattle.port_table.specs.Inside.{Walked};
 ghost use Rattle.ports.specs.Lent.{replaced};
 ghost use Rattle.ports.specs.Inside.{Arrived, Answered, HasRead, Filled, Showed};
@@ -27,7 +27,7 @@ fn f_code_of(word: u16) -> u8
 fn data_bytes(f_code: u8) -> usize
     ensures { λ r. ⌜ r ≡ dataBytes «f_code» ⌝ }
 {
-    let row = frames::row_of(f_code);
+    let row = rows::row_of(f_code);
     (row[0] / 8) as usize
 }
 

@@ -9,8 +9,8 @@ use borrow.Author.Tests.{eq-eqb, ne-eqb, le-leb, lt-leb, not-true, not-false}
 use lib.Dec.{eqb, leb}
 use lib.ListN.{getD}
 use Rattle.refusals.specs.Told.{Told, gives, refusal}
-use Rattle.frames.specs.Rows.{reserved, lineBits, rowOf, frameBytes}
-use Rattle.frames.proofs.Rows.{row-allowed, line-is, whole-most}
+use Rattle.rows.specs.Rows.{reserved, lineBits, rowOf, frameBytes}
+use Rattle.rows.proofs.Rows.{row-allowed, line-is, whole-most}
 use Rattle.timing.specs.Timing.{telegramBits, gapInRange, timedBy, telegramAnswer, guardAnswer, may, mayNot}
 
 module _ (f gap : ℕ) (row : List ℕ) (e : row ≡ rowOf f) where

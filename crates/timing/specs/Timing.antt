@@ -5,7 +5,7 @@ use mathlib.Core.List.{[], _∷_}
 use Prim.Native.Nat.{ℕ, _+_}
 use lib.Dec.{leb}
 use Rattle.refusals.specs.Told.{Told, gives, refusal}
-use Rattle.frames.specs.Rows.{reserved, lineBits}
+use Rattle.rows.specs.Rows.{reserved, lineBits}
 
 -- "A telegram takes 33 + line bits of its Slave Frame + gap"
 unfoldable pub telegramBits : ℕ → ℕ → ℕ

@@ -21,7 +21,7 @@ pub enum MaySend {
 pub fn telegram_bits(f_code: u8, gap: u16) -> Telegram
     ensures { λ r. ⌜ toldTelegram r ≡ telegramAnswer «f_code» gap ⌝ }
 {
-    let row = frames::row_of(f_code);
+    let row = rows::row_of(f_code);
     if row[3] != 1 {
         return Telegram::Refused(Refusal::ReservedFcode);
     }

@@ -1,7 +1,7 @@
 -- `frames::shapes::allowed` meets its contract.
 -- Assumes nothing.
 use borrow.Author.Needs.{needs}
-use Rattle.frames.proofs.Rows.{row-allowed}
+use Rattle.rows.proofs.Rows.{row-allowed}
 use Rattle.frames.proofs.shapes.allowed.Statement.{statement}
 use Rattle.frames.proofs.shapes.allowed.Tie as tie
 

@@ -2,7 +2,7 @@
 -- Assumes nothing.
 use native.Mathlib.Omega.{arith}
 use borrow.Author.Needs.{needs}
-use Rattle.frames.proofs.Rows.{row-allowed, row-data, row-whole, row-data-most, row-blocks, row-size-small, row-size-large, row-small}
+use Rattle.rows.proofs.Rows.{row-allowed, row-data, row-whole, row-data-most, row-blocks, row-size-small, row-size-large, row-small}
 use Rattle.frames.proofs.shapes.shape_of.Statement.{statement}
 use Rattle.frames.proofs.shapes.shape_of.Tie as tie
 

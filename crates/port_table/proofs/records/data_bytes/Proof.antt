@@ -3,7 +3,7 @@
 use mathlib.Core.Path.{_≡_, ap, sym}
 use Prim.Native.Nat.{ℕ}
 use native.Mathlib.Omega.{arith}
-use Rattle.frames.specs.Rows.{dataBits, dataBytes}
+use Rattle.rows.specs.Rows.{dataBits, dataBytes}
 use Rattle.port_table.proofs.records.data_bytes.Statement.{statement}
 use Rattle.port_table.proofs.records.data_bytes.Tie as tie
 

@@ -4,7 +4,7 @@ use mathlib.Core.Path.{sym, ap, _∙_}
 use Prim.Native.Nat.{_+_, _≤_}
 use native.Mathlib.Omega.{arith}
 use lib.ListN.{length}
-use Rattle.frames.specs.Rows.{dataBytes}
+use Rattle.rows.specs.Rows.{dataBytes}
 use Rattle.ports.proofs.Frames.{told-bytes, told-refused, written-small}
 use Rattle.frames.specs.Words.{address}
 use Rattle.ports.proofs.Bytes.{port-within, place-small}

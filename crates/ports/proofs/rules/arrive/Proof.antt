@@ -3,7 +3,7 @@
 use mathlib.Core.Path.{_≡_, refl, sym, ap, _∙_}
 use Prim.Native.Nat.{_≤_}
 use native.Mathlib.Omega.{arith}
-use Rattle.frames.specs.Rows.{dataBytes}
+use Rattle.rows.specs.Rows.{dataBytes}
 use Rattle.frames.specs.Words.{address}
 use Rattle.ports.proofs.Frames.{read-bytes, told-bytes, told-refused}
 use Rattle.ports.proofs.Bytes.{port-within}

@@ -2,7 +2,7 @@
 -- Assumes nothing.
 use native.Mathlib.Omega.{arith}
 use borrow.Author.Needs.{needs}
-use Rattle.frames.proofs.Rows.{row-data, row-small}
+use Rattle.rows.proofs.Rows.{row-data, row-small}
 use Rattle.ports.proofs.rules.data_bytes.Statement.{statement}
 use Rattle.ports.proofs.rules.data_bytes.Tie as tie
 

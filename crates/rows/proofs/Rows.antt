@@ -1,4 +1,4 @@
--- The table of rows: one computed test over its sixteen rows, and what follows of each.
+-- The table of rows: what follows of each row.
 -- Assumes nothing.
 use mathlib.Core.Path.{_≡_, refl, sym, ap, ap₂, _∙_, subst}
 use mathlib.Core.Bool.{Bool, true, false, not, cond}
@@ -11,28 +11,9 @@ use borrow.Author.Tests.{ne-eqb}
 use lib.Dec.{T, eqb, eqb→eq, leb, leb→le}
 use lib.ListN.{length, getD, List·getD-eq-default}
 use Rattle.checks.proofs.Tests.{both, both-left, both-right, upto, at-upto}
-use Rattle.frames.specs.Rows.{dataBits, reserved, dataBytes, blocks, blockBytes, frameBytes, lineBits, rowOf}
+use Rattle.rows.specs.Rows.{dataBits, reserved, dataBytes, blocks, blockBytes, frameBytes, lineBits, rowOf}
 
--- ---- the table in the code
-
--- two lists of numbers are equal
-abbrev equals : List ℕ → List ℕ → Bool
-equals [] [] = true
-equals [] (b ∷ q) = false
-equals (a ∷ p) [] = false
-equals (a ∷ p) (b ∷ q) = both (eqb a b) (equals p q)
-
-equals→eq : (p q : List ℕ) → T (equals p q) → p ≡ q
-equals→eq [] [] t = refl
-equals→eq [] (b ∷ q) t = absurd t
-equals→eq (a ∷ p) [] t = absurd t
-equals→eq (a ∷ p) (b ∷ q) t = ap₂ _∷_ (eqb→eq a b (both-left (eqb a b) (equals p q) t)) (equals→eq p q (both-right (eqb a b) (equals p q) t))
-
-abbrev pub tabled : List (List ℕ) → Bool
-tabled rows = upto 16 (λ f. equals (getD rows f []) (rowOf f))
-
-pub row-at : (rows : List (List ℕ)) → T (tabled rows) → (f : ℕ) → f < 16 → getD rows f [] ≡ rowOf f
-row-at rows t f h = equals→eq (getD rows f []) (rowOf f) (at-upto 16 (λ f. equals (getD rows f []) (rowOf f)) t f h)
+-- ---- beyond the table
 
 no-bits : (f : ℕ) → 15 < f → dataBits f ≡ 0
 unfolding dataBits
