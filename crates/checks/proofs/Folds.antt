@@ -1,5 +1,5 @@
--- The check bits of 64 bits by shifts, sums and bytes looked up: each line agrees with the definition at every run with a single
--- one, and both are linear.
+-- The check bits of 64 bits are those of 23, by shifts and sums: each line agrees with the definition at every run with a
+-- single one, and both are linear.
 -- Assumes nothing.
 use mathlib.Core.Path.{_≡_, refl, sym, ap, ap₂, _∙_, subst}
 use mathlib.Core.Bool.{Bool, true, false}
@@ -8,14 +8,14 @@ use Prim.Native.Nat.{ℕ, zero, suc, _+_, _-_, _*_, _/_, _%_, _^_, _<_}
 use native.Mathlib.Nat.{mod-eq-of-lt}
 use native.Mathlib.Omega.{arith}
 use lib.Dec.{T}
-use lib.Bits.{bitXor, xor-mod}
-use lib.ListN.{length, replicate, drop, length-append, length-replicate, length-drop}
+use lib.Bits.{bitXor}
+use lib.ListN.{length, replicate, drop, length-replicate, length-drop}
 use Rattle.checks.specs.Bits.{bits, number}
 use Rattle.checks.specs.Check.{add, remainder, plain}
 use Rattle.checks.proofs.Polynomials.{same, same-self, add-append, zeros-add}
 use Rattle.checks.proofs.Numbers.{length-bits, number-bits, number-lt}
 use Rattle.checks.proofs.Distance.{plain-add}
-use Rattle.checks.proofs.Shifts.{bits-small, linearBytes, Shifted, whole, up, down, sum, byte, asNumber, numbers, runs, numbers-small, numbers-bits, runs-length, Linear, runs-linear, drop-add, atUnits, agree}
+use Rattle.checks.proofs.Shifts.{Shifted, whole, up, down, sum, asNumber, numbers, runs, numbers-small, numbers-bits, runs-length, Linear, runs-linear, drop-add, atUnits, agree}
 
 number-zeros : (k : ℕ) (l : List Bool) → number (replicate k false ++ l) ≡ number l
 number-zeros zero l = refl
@@ -106,63 +106,3 @@ halves-plain high low hh hl =
     let same-halves : asNumber halves n ≡ bitXor (bitXor (bitXor low high) ((high * 2 ^ 3) % 2 ^ 64)) ((high * 2 ^ 10) % 2 ^ 64) =
     ap₂ (λ (l h : ℕ). bitXor (bitXor (bitXor l h) ((h * 2 ^ 3) % 2 ^ 64)) ((h * 2 ^ 10) % 2 ^ 64)) (low-half high low hl) (high-half high low hl) in
     rw (sym same-halves) (folds-small n small, folds-plain n small)
-
--- ---- looking up
-
-abbrev pub spread : Shifted
-spread =
-    sum (sum (sum (down 20 44 refl (up 12 52 refl whole)) (up 56 8 refl (down 52 12 refl whole))) (up 63 1 refl (down 52 12 refl whole))) (up 61 3 refl (down 52 12 refl whole))
-
-abbrev pub lookup : (a b c d : ℕ) → T (linearBytes a) → T (linearBytes b) → T (linearBytes c) → T (linearBytes d) → Shifted
-lookup a b c d ta tb tc td =
-    sum (sum (sum (sum (down 8 56 refl (up 8 56 refl whole)) (byte a ta 53 8 refl whole)) (byte b tb 50 11 refl whole)) (byte c tc 47 14 refl whole)) (byte d td 44 17 refl whole)
-
--- with eight bytes for each three bits
-abbrev pub lookups : (a b c d : ℕ) → T (linearBytes a) → T (linearBytes b) → T (linearBytes c) → T (linearBytes d) → List Shifted
-lookups a b c d ta tb tc td = spread ∷ lookup a b c d ta tb tc td ∷ []
-
-abbrev pub looked : List Shifted → List Bool → List Bool
-looked es l = runs es (replicate 41 false ++ l)
-
-looked-linear : (es : List Shifted) → Linear 23 (looked es)
-looked-linear es p q hp hq =
-    ap (runs es) (zeros-front 41 p q)
-    ∙ runs-linear es (replicate 41 false ++ p) (replicate 41 false ++ q)
-    (length-append (replicate 41 false) p ∙ ap (λ (n : ℕ). 41 + n) hp) (length-append (replicate 41 false) q ∙ ap (λ (n : ℕ). 41 + n) hq)
-
-unfoldable pub padded : List Bool → List Bool
-padded l = replicate 56 false ++ plain (replicate 41 false ++ l)
-
-padded-linear : Linear 23 padded
-unfolding padded
-padded-linear p q hp hq =
-    ap (λ (l : List Bool). replicate 56 false ++ l)
-    (ap plain (zeros-front 41 p q)
-    ∙ plain-linear 64 (replicate 41 false ++ p) (replicate 41 false ++ q)
-    (length-append (replicate 41 false) p ∙ ap (λ (n : ℕ). 41 + n) hp) (length-append (replicate 41 false) q ∙ ap (λ (n : ℕ). 41 + n) hq))
-    ∙ zeros-front 56 (plain (replicate 41 false ++ p)) (plain (replicate 41 false ++ q))
-
-pub lookups-plain : (es : List Shifted) → T (atUnits 23 (looked es) padded) → (v : ℕ) → v < 8388608 → numbers es v ≡ number (plain (bits 64 v))
-unfolding padded
-lookups-plain es right v h =
-    let w : bits 64 v ≡ replicate 41 false ++ bits 23 v = bits-small 41 23 v h in
-    number-64 (numbers es v) (numbers-small es v (omega arith))
-    ∙ ap number
-    (numbers-bits es v (omega arith)
-    ∙ ap (runs es) w
-    ∙ agree 23 (looked es) padded (looked-linear es) padded-linear right (bits 23 v) (length-bits 23 v))
-    ∙ number-zeros 56 (plain (replicate 41 false ++ bits 23 v))
-    ∙ ap (λ (l : List Bool). number (plain l)) (sym w)
-
-low-byte : (y : ℕ) → y < 2 ^ 64 → (y * 2 ^ 56 % 2 ^ 64) / 2 ^ 56 ≡ y % 256
-low-byte y h = omega arith
-
--- what `plain_of` does: the bytes looked up are cut at the end, all at once
-pub cut-once : (y a b c d : ℕ) → y < 2 ^ 64
-    → bitXor (bitXor (bitXor (bitXor y a) b) c) d % 256 ≡ bitXor (bitXor (bitXor (bitXor ((y * 2 ^ 56 % 2 ^ 64) / 2 ^ 56) (a % 256)) (b % 256)) (c % 256)) (d % 256)
-cut-once y a b c d h =
-    xor-mod (bitXor (bitXor (bitXor y a) b) c) d 8
-    ∙ ap (λ (x : ℕ). bitXor x (d % 256)) (xor-mod (bitXor (bitXor y a) b) c 8)
-    ∙ ap (λ (x : ℕ). bitXor (bitXor x (c % 256)) (d % 256)) (xor-mod (bitXor y a) b 8)
-    ∙ ap (λ (x : ℕ). bitXor (bitXor (bitXor x (b % 256)) (c % 256)) (d % 256)) (xor-mod y a 8)
-    ∙ ap (λ (x : ℕ). bitXor (bitXor (bitXor (bitXor x (a % 256)) (b % 256)) (c % 256)) (d % 256)) (sym (low-byte y h))

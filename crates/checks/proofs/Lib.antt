@@ -5,4 +5,5 @@ pub mod Tests
 pub mod Distance
 pub mod Shifts
 pub mod Folds
+pub mod Lookups
 pub mod Runs

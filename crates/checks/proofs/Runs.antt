@@ -121,7 +121,7 @@ parts m =
     number-append (remainder m) (odd (m ++ remainder m) ∷ [])
     ∙ ap (λ (x : ℕ). number (remainder m) * 2 + x) (last-bit (odd (m ++ remainder m)))
 
-number-add : (a b : List Bool) → length a ≡ 8 → length b ≡ 8 → bitXor (number a) (number b) ≡ number (add a b)
+pub number-add : (a b : List Bool) → length a ≡ 8 → length b ≡ 8 → bitXor (number a) (number b) ≡ number (add a b)
 number-add a b ha hb =
     sym (number-byte (bitXor (number a) (number b)) (xor-lt 8 (number a) (number b) (number-byte-lt a ha) (number-byte-lt b hb)))
     ∙ ap number (bits-xor 8 (number a) (number b) ∙ ap₂ add (byte-number a ha) (byte-number b hb))

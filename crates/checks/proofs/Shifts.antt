@@ -1,4 +1,4 @@
--- Shifts, sums and bytes looked up, of 64 bits, on numbers and on runs of bits, and when two linear maps of bits agree.
+-- Shifts and sums of 64 bits, on numbers and on runs of bits, and when two linear maps of bits agree.
 -- Assumes nothing.
 use mathlib.Core.Path.{_≡_, refl, sym, ap, ap₂, _∙_, subst}
 use mathlib.Core.Bool.{Bool, true, false}
@@ -13,9 +13,9 @@ use lib.ListN.{length, take, drop, replicate, length-append, length-drop, length
 use lib.Seq.{take-at, drop-at, length-take-le}
 use Rattle.checks.specs.Bits.{bits, number}
 use Rattle.checks.specs.Check.{plus, add}
-use Rattle.checks.proofs.Polynomials.{Same, nils, conss, same, same-self, add-assoc, add-swap, add-append, add-self, add-zeros, length-add, zeros-add}
+use Rattle.checks.proofs.Polynomials.{Same, nils, conss, same, same-self, add-assoc, add-swap, add-append, length-add, zeros-add}
 use Rattle.checks.proofs.Numbers.{length-bits, bits-xor, bits-mod}
-use Rattle.checks.proofs.Tests.{both, both-left, both-right, upto, at-upto, alike, alike→eq}
+use Rattle.checks.proofs.Tests.{both, both-left, both-right, alike, alike→eq}
 
 -- ---- bits of a quotient and of a multiple
 
@@ -50,57 +50,31 @@ bits-multiple j k n =
     ∙ ap (bits k) (native.Mathlib.Nat.mul-mod-left n (2 ^ k))
     ∙ bits-zero k)
 
--- ---- eight bytes in a number, of which three bits choose one
-
-abbrev byteOf : ℕ → ℕ → List Bool
-byteOf eight place = bits 8 (eight / 2 ^ (8 * place) % 256)
-
-abbrev chosen : Bool → List Bool → List Bool
-chosen true c = c
-chosen false c = replicate 8 false
-
--- the sum of those columns that the bits choose
-abbrev mixed : List Bool → List (List Bool) → List Bool
-mixed [] cs = replicate 8 false
-mixed (b ∷ l) [] = replicate 8 false
-mixed (b ∷ l) (c ∷ cs) = add (chosen b c) (mixed l cs)
-
-abbrev columns : ℕ → List (List Bool)
-columns eight = byteOf eight 4 ∷ byteOf eight 2 ∷ byteOf eight 1 ∷ []
-
--- each of the eight bytes is the sum of its columns
-abbrev pub linearBytes : ℕ → Bool
-linearBytes eight = upto 8 (λ n. alike (byteOf eight n) (mixed (bits 3 n) (columns eight)))
-
--- ---- an expression of shifts, sums and bytes looked up, in one number of 64 bits
+-- ---- an expression of shifts and sums in one number of 64 bits
 
 pub data Shifted : Type 0 where
   whole : Shifted
   up : (j k : ℕ) → j + k ≡ 64 → Shifted → Shifted
   down : (j k : ℕ) → j + k ≡ 64 → Shifted → Shifted
   sum : Shifted → Shifted → Shifted
-  byte : (eight : ℕ) → T (linearBytes eight) → (j k : ℕ) → j + (3 + k) ≡ 64 → Shifted → Shifted
 
 abbrev pub asNumber : Shifted → ℕ → ℕ
 asNumber whole n = n
 asNumber (up j k h e) n = (asNumber e n * 2 ^ k) % 2 ^ 64
 asNumber (down j k h e) n = asNumber e n / 2 ^ k
 asNumber (sum e f) n = bitXor (asNumber e n) (asNumber f n)
-asNumber (byte eight t j k h e) n = eight / 2 ^ (8 * (asNumber e n / 2 ^ k % 8)) % 256
 
 abbrev pub asBits : Shifted → List Bool → List Bool
 asBits whole l = l
 asBits (up j k h e) l = drop k (asBits e l) ++ replicate k false
 asBits (down j k h e) l = replicate k false ++ take j (asBits e l)
 asBits (sum e f) l = add (asBits e l) (asBits f l)
-asBits (byte eight t j k h e) l = replicate 56 false ++ mixed (take 3 (drop j (asBits e l))) (columns eight)
 
 pub number-small : (e : Shifted) (n : ℕ) → n < 2 ^ 64 → asNumber e n < 2 ^ 64
 number-small whole n h = h
 number-small (up j k g e) n h = mod-lt (asNumber e n * 2 ^ k) (pow-pos 64)
 number-small (down j k g e) n h = lt-of-le-of-lt (shr-le (asNumber e n) k) (number-small e n h)
 number-small (sum e f) n h = xor-lt 64 (asNumber e n) (asNumber f n) (number-small e n h) (number-small f n h)
-number-small (byte eight t j k g e) n h = omega arith
 
 up-bits : (j k n : ℕ) → j + k ≡ 64 → bits 64 ((n * 2 ^ k) % 2 ^ 64) ≡ drop k (bits 64 n) ++ replicate k false
 up-bits j k n h =
@@ -121,33 +95,12 @@ down-bits j k n h g =
     ∙ ap (take j) (bits-split j k n)
     ∙ take-at (bits j (n / 2 ^ k)) (bits k n) j (length-bits j (n / 2 ^ k))))
 
--- the three bits from x^k on
-three-bits : (j k n : ℕ) → j + (3 + k) ≡ 64 → bits 3 (n / 2 ^ k % 8) ≡ take 3 (drop j (bits 64 n))
-three-bits j k n h =
-    bits-mod 3 0 (n / 2 ^ k)
-    ∙ sym (ap (λ (i : ℕ). take 3 (drop j (bits i n))) (sym h)
-    ∙ ap (λ (l : List Bool). take 3 (drop j l)) (bits-split j (3 + k) n)
-    ∙ ap (take 3) (drop-at (bits j (n / 2 ^ (3 + k))) (bits (3 + k) n) j (length-bits j (n / 2 ^ (3 + k))) ∙ bits-split 3 k n)
-    ∙ take-at (bits 3 (n / 2 ^ k)) (bits k n) 3 (length-bits 3 (n / 2 ^ k)))
-
-byte-bits : (eight j k n : ℕ) → T (linearBytes eight) → j + (3 + k) ≡ 64
-    → bits 64 (eight / 2 ^ (8 * (n / 2 ^ k % 8)) % 256) ≡ replicate 56 false ++ mixed (take 3 (drop j (bits 64 n))) (columns eight)
-byte-bits eight j k n t h =
-    bits-small 56 8 (eight / 2 ^ (8 * (n / 2 ^ k % 8)) % 256) (omega arith)
-    ∙ ap (λ (l : List Bool). replicate 56 false ++ l)
-    (alike→eq (byteOf eight (n / 2 ^ k % 8)) (mixed (bits 3 (n / 2 ^ k % 8)) (columns eight))
-    (at-upto 8 (λ i. alike (byteOf eight i) (mixed (bits 3 i) (columns eight))) t (n / 2 ^ k % 8) (omega arith))
-    ∙ ap (λ (l : List Bool). mixed l (columns eight)) (three-bits j k n h))
-
 pub shifted-bits : (e : Shifted) (n : ℕ) → n < 2 ^ 64 → bits 64 (asNumber e n) ≡ asBits e (bits 64 n)
 shifted-bits whole n h = refl
 shifted-bits (up j k g e) n h = up-bits j k (asNumber e n) g ∙ ap (λ (l : List Bool). drop k l ++ replicate k false) (shifted-bits e n h)
 shifted-bits (down j k g e) n h =
     down-bits j k (asNumber e n) g (number-small e n h) ∙ ap (λ (l : List Bool). replicate k false ++ take j l) (shifted-bits e n h)
 shifted-bits (sum e f) n h = bits-xor 64 (asNumber e n) (asNumber f n) ∙ ap₂ add (shifted-bits e n h) (shifted-bits f n h)
-shifted-bits (byte eight t j k g e) n h =
-    byte-bits eight j k (asNumber e n) t g
-    ∙ ap (λ (l : List Bool). replicate 56 false ++ mixed (take 3 (drop j l)) (columns eight)) (shifted-bits e n h)
 
 -- ---- one after the other
 
@@ -195,11 +148,6 @@ drop-add (suc k) (conss s) = drop-add k s
 zeros-twice : (k : ℕ) → replicate k false ≡ add (replicate k false) (replicate k false)
 zeros-twice k = sym (zeros-add k (replicate k false) (sym (length-replicate k false)))
 
-length-mixed : (l : List Bool) (cs : List (List Bool)) → length (mixed l cs) ≡ 8
-length-mixed [] cs = refl
-length-mixed (b ∷ l) [] = refl
-length-mixed (b ∷ l) (c ∷ cs) = length-add (chosen b c) (mixed l cs) ∙ length-mixed l cs
-
 length-asBits : (e : Shifted) (l : List Bool) → length l ≡ 64 → length (asBits e l) ≡ 64
 length-asBits whole l h = h
 length-asBits (up j k g e) l h =
@@ -210,9 +158,6 @@ length-asBits (down j k g e) l h =
     let t : length (take j (asBits e l)) ≡ j = length-take-le j (asBits e l) (omega arith) in
     simp (length-append, length-replicate) (omega arith)
 length-asBits (sum e f) l h = length-add (asBits e l) (asBits f l) ∙ length-asBits f l h
-length-asBits (byte eight t j k g e) l h =
-    length-append (replicate 56 false) (mixed (take 3 (drop j (asBits e l))) (columns eight))
-    ∙ ap (λ (n : ℕ). 56 + n) (length-mixed (take 3 (drop j (asBits e l))) (columns eight))
 
 pub runs-length : (es : List Shifted) (l : List Bool) → length l ≡ 64 → length (runs es l) ≡ 64
 runs-length [] l h = h
@@ -223,31 +168,6 @@ sums a b c d k hb hc hd =
     sym (add-assoc a (same b (add c d) (hb ∙ sym (length-add c d ∙ hd))))
     ∙ ap (add a) (add-swap b (same c d (hc ∙ sym hd)))
     ∙ add-assoc a (same c (add b d) (hc ∙ sym (length-add b d ∙ hd)))
-
-data Bytes : List (List Bool) → Type 0 where
-  none : Bytes []
-  some : {c : List Bool} {cs : List (List Bool)} → length c ≡ 8 → Bytes cs → Bytes (c ∷ cs)
-
-columns-bytes : (eight : ℕ) → Bytes (columns eight)
-columns-bytes eight = some (length-bits 8 (eight / 2 ^ (8 * 4) % 256)) (some (length-bits 8 (eight / 2 ^ (8 * 2) % 256)) (some (length-bits 8 (eight / 2 ^ (8 * 1) % 256)) none))
-
-length-chosen : (b : Bool) (c : List Bool) → length c ≡ 8 → length (chosen b c) ≡ 8
-length-chosen true c h = h
-length-chosen false c h = refl
-
-chosen-add : (a b : Bool) (c : List Bool) → length c ≡ 8 → chosen (plus a b) c ≡ add (chosen a c) (chosen b c)
-chosen-add true true c h = sym (add-self c ∙ ap (λ (k : ℕ). replicate k false) h)
-chosen-add true false c h = sym (ap (λ (k : ℕ). add c (replicate k false)) (sym h) ∙ add-zeros c)
-chosen-add false true c h = sym (zeros-add 8 c (sym h))
-chosen-add false false c h = refl
-
-mixed-add : {p q : List Bool} {cs : List (List Bool)} → Bytes cs → Same p q → mixed (add p q) cs ≡ add (mixed p cs) (mixed q cs)
-mixed-add none nils = refl
-mixed-add none (conss s) = refl
-mixed-add (some h w) nils = refl
-mixed-add {cs = c ∷ cs} (some h w) (conss {a} {b} {p} {q} s) =
-    ap₂ add (chosen-add a b c h) (mixed-add w s)
-    ∙ sums (chosen a c) (chosen b c) (mixed p cs) (mixed q cs) 8 (length-chosen b c h) (length-mixed p cs) (length-mixed q cs)
 
 pub shifted-linear : (e : Shifted) → Linear 64 (asBits e)
 shifted-linear whole p q hp hq = refl
@@ -264,15 +184,6 @@ shifted-linear (down j k g e) p q hp hq =
 shifted-linear (sum e f) p q hp hq =
     ap₂ add (shifted-linear e p q hp hq) (shifted-linear f p q hp hq)
     ∙ sums (asBits e p) (asBits e q) (asBits f p) (asBits f q) 64 (length-asBits e q hq) (length-asBits f p hp) (length-asBits f q hq)
-shifted-linear (byte eight t j k g e) p q hp hq =
-    let s : Same (asBits e p) (asBits e q) = same (asBits e p) (asBits e q) (length-asBits e p hp ∙ sym (length-asBits e q hq)) in
-    let d : Same (drop j (asBits e p)) (drop j (asBits e q)) = same-drop j s in
-    let cut : List Bool → List Bool = λ l. mixed (take 3 (drop j l)) (columns eight) in
-    ap (λ (l : List Bool). replicate 56 false ++ cut l) (shifted-linear e p q hp hq)
-    ∙ ap₂ _++_ (zeros-twice 56)
-    (ap (λ (l : List Bool). mixed l (columns eight)) (ap (take 3) (drop-add j s) ∙ take-add 3 d)
-    ∙ mixed-add (columns-bytes eight) (same-take 3 d))
-    ∙ sym (add-append (cut (asBits e p)) (cut (asBits e q)) (same-self (replicate 56 false)))
 
 pub runs-linear : (es : List Shifted) → Linear 64 (runs es)
 runs-linear [] p q hp hq = refl

@@ -4,7 +4,7 @@ use mathlib.Core.Path.{_≡_, refl, sym, ap, ap₂, subst}
 use mathlib.Core.Bool.{Bool, true, false}
 use mathlib.Core.List.{List, [], _∷_}
 use mathlib.Core.Logic.{_⊎_, inl, inr, ⊎-elim}
-use Prim.Native.Nat.{ℕ, zero, suc, _<_}
+use Prim.Native.Nat.{ℕ, zero, suc, _≤_, _<_}
 use native.Mathlib.Omega.{arith}
 use native.Mathlib.Decide.{decLe}
 use lib.Dec.{T}
@@ -58,3 +58,12 @@ alike→eq [] [] t = refl
 alike→eq [] (b ∷ q) t = absurd t
 alike→eq (a ∷ p) [] t = absurd t
 alike→eq (a ∷ p) (b ∷ q) t = ap₂ _∷_ (equal→eq a b (both-left (equal a b) (alike p q) t)) (alike→eq p q (both-right (equal a b) (alike p q) t))
+
+-- n is none of the numbers below k, as a `match` says of its last arm
+abbrev pub NoneBelow : ℕ → ℕ → Type 0
+NoneBelow n zero = Unit
+NoneBelow n (suc k) = NoneBelow n k × (n ≡ k → ⊥)
+
+pub beyond : (n k : ℕ) → NoneBelow n k → k ≤ n
+beyond n zero o = omega arith
+beyond n (suc k) o = let h : k ≤ n = beyond n k (o .0) in let e : (n ≡ k → ⊥) = o .1 in omega arith

@@ -37,36 +37,179 @@ fn folded(high: u64, low: u64) -> u64
     ((v << 41) >> 41) ^ top ^ (top << 1) ^ (top << 2)
 }
 
-// Eight bytes in a number, those before a place cut off: the byte at the place is the lowest.
-fn from_byte(eight: u64, place: u64) -> u64
-    requires { ⌜ place < 8 ⌝ }
-    ensures { λ r. ⌜ r ≡ eight / 2 ^ (8 * place) ⌝ }
+// Check bits, before they are inverted, looked up in read-only memory: what four bits leave with 20 bits behind them.
+fn from_20(four: u64) -> u8
+    requires { ⌜ four < 16 ⌝ }
+    ensures { λ r. ⌜ r ≡ number (plain (bits 64 (four * 2 ^ 20))) ⌝ }
 {
-    eight >> (8 * place)
+    match four {
+        0 => 0x00,
+        1 => 0xe0,
+        2 => 0x0b,
+        3 => 0xeb,
+        4 => 0x15,
+        5 => 0xf5,
+        6 => 0x1e,
+        7 => 0xfe,
+        8 => 0x29,
+        9 => 0xc9,
+        10 => 0x22,
+        11 => 0xc2,
+        12 => 0x3c,
+        13 => 0xdc,
+        14 => 0x37,
+        _ => 0xd7,
+    }
 }
 
-// What each three bits from x^8, x^11, x^14 and x^17 on leave: a byte for each of their eight values.
-const FROM_8: u64 = 0x29e277bc955ecb00;
-
-const FROM_11: u64 = 0x8a3924971daeb300;
-
-const FROM_14: u64 = 0xec0aeb0de107e600;
-
-const FROM_17: u64 = 0x4950786128311900;
-
-// The check bits, before they are inverted, of at most 23 bits. Times x^8 these reach x^30; x^20 and
-// x^8 + x^3 + x leave the same, and what stands below x^8 is check bits already.
-fn plain_of(v: u64) -> u64
-    requires { ⌜ v < 8388608 ⌝ }
-    ensures { λ r. ⌜ (r ≡ number (plain (bits 64 v))) × (r < 256) ⌝ }
+// What four bits leave with 16 bits behind them.
+fn from_16(four: u64) -> u8
+    requires { ⌜ four < 16 ⌝ }
+    ensures { λ r. ⌜ r ≡ number (plain (bits 64 (four * 2 ^ 16))) ⌝ }
 {
-    let high = v >> 12;
-    let y = (((v << 52) >> 44) ^ (high << 8)) ^ (high << 1) ^ (high << 3);
-    let first = from_byte(FROM_8, (y >> 8) % 8);
-    let second = from_byte(FROM_11, (y >> 11) % 8);
-    let third = from_byte(FROM_14, (y >> 14) % 8);
-    let fourth = from_byte(FROM_17, (y >> 17) % 8);
-    (y ^ first ^ second ^ third ^ fourth) % 256
+    match four {
+        0 => 0x00,
+        1 => 0x0e,
+        2 => 0x1c,
+        3 => 0x12,
+        4 => 0x38,
+        5 => 0x36,
+        6 => 0x24,
+        7 => 0x2a,
+        8 => 0x70,
+        9 => 0x7e,
+        10 => 0x6c,
+        11 => 0x62,
+        12 => 0x48,
+        13 => 0x46,
+        14 => 0x54,
+        _ => 0x5a,
+    }
+}
+
+// What four bits leave with 12 bits behind them.
+fn from_12(four: u64) -> u8
+    requires { ⌜ four < 16 ⌝ }
+    ensures { λ r. ⌜ r ≡ number (plain (bits 64 (four * 2 ^ 12))) ⌝ }
+{
+    match four {
+        0 => 0x00,
+        1 => 0xc1,
+        2 => 0x4a,
+        3 => 0x8b,
+        4 => 0x94,
+        5 => 0x55,
+        6 => 0xde,
+        7 => 0x1f,
+        8 => 0xe3,
+        9 => 0x22,
+        10 => 0xa9,
+        11 => 0x68,
+        12 => 0x77,
+        13 => 0xb6,
+        14 => 0x3d,
+        _ => 0xfc,
+    }
+}
+
+// What four bits leave with 8 bits behind them.
+fn from_8(four: u64) -> u8
+    requires { ⌜ four < 16 ⌝ }
+    ensures { λ r. ⌜ r ≡ number (plain (bits 64 (four * 2 ^ 8))) ⌝ }
+{
+    match four {
+        0 => 0x00,
+        1 => 0x0d,
+        2 => 0x19,
+        3 => 0x14,
+        4 => 0x31,
+        5 => 0x3c,
+        6 => 0x28,
+        7 => 0x25,
+        8 => 0x61,
+        9 => 0x6c,
+        10 => 0x78,
+        11 => 0x75,
+        12 => 0x50,
+        13 => 0x5d,
+        14 => 0x49,
+        _ => 0x44,
+    }
+}
+
+// What four bits leave with 4 bits behind them.
+fn from_4(four: u64) -> u8
+    requires { ⌜ four < 16 ⌝ }
+    ensures { λ r. ⌜ r ≡ number (plain (bits 64 (four * 2 ^ 4))) ⌝ }
+{
+    match four {
+        0 => 0x00,
+        1 => 0xae,
+        2 => 0x97,
+        3 => 0x39,
+        4 => 0xe6,
+        5 => 0x48,
+        6 => 0x71,
+        7 => 0xdf,
+        8 => 0x07,
+        9 => 0xa9,
+        10 => 0x90,
+        11 => 0x3e,
+        12 => 0xe1,
+        13 => 0x4f,
+        14 => 0x76,
+        _ => 0xd8,
+    }
+}
+
+// What four bits leave with nothing behind them.
+fn from_0(four: u64) -> u8
+    requires { ⌜ four < 16 ⌝ }
+    ensures { λ r. ⌜ r ≡ number (plain (bits 64 four)) ⌝ }
+{
+    match four {
+        0 => 0x00,
+        1 => 0xcb,
+        2 => 0x5e,
+        3 => 0x95,
+        4 => 0xbc,
+        5 => 0x77,
+        6 => 0xe2,
+        7 => 0x29,
+        8 => 0xb3,
+        9 => 0x78,
+        10 => 0xed,
+        11 => 0x26,
+        12 => 0x0f,
+        13 => 0xc4,
+        14 => 0x51,
+        _ => 0x9a,
+    }
+}
+
+// What at most 24 bits leave: the sum of what each four of them leave.
+fn plain_of(v: u64) -> u8
+    requires { ⌜ v < 16777216 ⌝ }
+    ensures { λ r. ⌜ r ≡ number (plain (bits 64 v)) ⌝ }
+{
+    let high = from_20((v >> 20) % 16) ^ from_16((v >> 16) % 16) ^ from_12((v >> 12) % 16);
+    high ^ from_8((v >> 8) % 16) ^ from_4((v >> 4) % 16) ^ from_0(v % 16)
+}
+
+// What a word leaves.
+fn plain_of_word(v: u64) -> u8
+    requires { ⌜ v < 65536 ⌝ }
+    ensures { λ r. ⌜ r ≡ number (plain (bits 64 v)) ⌝ }
+{
+    from_12((v >> 12) % 16) ^ from_8((v >> 8) % 16) ^ from_4((v >> 4) % 16) ^ from_0(v % 16)
+}
+
+// What a byte leaves.
+fn plain_of_byte(v: u64) -> u8
+    requires { ⌜ v < 256 ⌝ }
+    ensures { λ r. ⌜ r ≡ number (plain (bits 64 v)) ⌝ }
+{
+    from_4((v >> 4) % 16) ^ from_0(v % 16)
 }
 
 // The check bits of a block of any length, byte by byte: the remainder so far joins the next byte,
@@ -78,7 +221,7 @@ fn plain_by_bytes(block: &[u8]) -> u64
     let mut i = 0;
     while i < block.len() {
         let parity = plain % 2;
-        plain = plain_of((plain - parity) ^ wide(block[i])) ^ parity;
+        plain = wide(plain_of_byte((plain - parity) ^ wide(block[i]))) ^ parity;
         i += 1;
     }
     plain
@@ -88,7 +231,7 @@ fn plain_by_bytes(block: &[u8]) -> u64
 pub fn check_of_word(word: u16) -> u8
     ensures { λ r. ⌜ r ≡ checkOf (word / 256 ∷ word % 256 ∷ []) ⌝ }
 {
-    (255 - plain_of(word as u64)) as u8
+    255 - plain_of_word(word as u64)
 }
 
 // The check sequence of a block of any length. The blocks of a frame have two, four or eight bytes.
@@ -99,10 +242,7 @@ pub fn check_of(block: &[u8]) -> u8
         return check_of_word(word_of(block[0], block[1]));
     }
     if block.len() == 8 {
-        return (255 - plain_of(folded(four(&block[..4]), four(&block[4..])))) as u8;
-    }
-    if block.len() == 4 {
-        return (255 - plain_of(folded(0, four(block)))) as u8;
+        return 255 - plain_of(folded(four(&block[..4]), four(&block[4..])));
     }
     (255 - plain_by_bytes(block)) as u8
 }

@@ -29,14 +29,7 @@ returns-2 c =
     check-inverted (c .before .before .before .before .before .before .before .before .before .args .block .now) (c .plain-of .result)
     (plain-first (c .before .before .before .before .before .before .before .before .before .args .block .now) _ (c .plain-of .result) (omega arith)
     (number-halves 4 (c .before .before .before .before .four .result) (c .before .before .four2 .result) (c .before .before .before .before .before .before .before .before .before .args .block .now) (omega arith) (c .before .before .before .before .four .ensures .0) (c .before .before .four2 .ensures .0))
-    (c .plain-of .ensures .0 ∙ ap number (c .before .folded .ensures .1)))
-
-returns-3 : tie.Need-returns-3
-returns-3 c =
-    check-inverted (c .before .before .before .before .before .before .before .args .block .now) (c .plain-of2 .result)
-    (plain-first (c .before .before .before .before .before .before .before .args .block .now) _ (c .plain-of2 .result) (omega arith)
-    (native.Mathlib.Nat.zero-add (c .before .before .four3 .result) ∙ c .before .before .four3 .ensures .0)
-    (c .plain-of2 .ensures .0 ∙ ap number (c .before .folded2 .ensures .1)))
+    (c .plain-of .ensures ∙ ap number (c .before .folded .ensures .1)))
 
 pub check-of-spec : {M : Type 1} → statement M
 check-of-spec =
@@ -56,15 +49,8 @@ check-of-spec =
     (λ c κs. search needs)
     (λ c κs. search needs)
     (λ c. search needs)
-    (λ c. search needs)
     returns-2
     (λ c κs. search needs)
-    (λ c κs. search needs)
-    (λ c κs. search needs)
     (λ c. search needs)
     (λ c. search needs)
-    returns-3
-    (λ c κs. search needs)
-    (λ c. search needs)
-    (λ c. search needs)
-    (λ c. check-inverted (c .before .before .before .before .before .args .block .now) (c .plain-by-bytes .result) (c .plain-by-bytes .ensures .0)))
+    (λ c. check-inverted (c .before .before .before .before .args .block .now) (c .plain-by-bytes .result) (c .plain-by-bytes .ensures .0)))

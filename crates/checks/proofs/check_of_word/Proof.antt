@@ -12,8 +12,8 @@ use Rattle.checks.proofs.check_of_word.Tie as tie
 returns : tie.Need-returns
 returns c =
     let word = c .before .args .word in
-    check-inverted (word / 256 ∷ word % 256 ∷ []) (c .plain-of .result)
-    (plain-first (word / 256 ∷ word % 256 ∷ []) word (c .plain-of .result) (omega arith) (number-word word (omega arith)) (c .plain-of .ensures .0))
+    check-inverted (word / 256 ∷ word % 256 ∷ []) (c .plain-of-word .result)
+    (plain-first (word / 256 ∷ word % 256 ∷ []) word (c .plain-of-word .result) (omega arith) (number-word word (omega arith)) (c .plain-of-word .ensures))
 
 pub check-of-word-spec : {M : Type 1} → statement M
-check-of-word-spec = tie.close (tie.spec (λ c κs. search needs) (λ c. search needs) (λ c. search needs) returns)
+check-of-word-spec = tie.close (tie.spec (λ c κs. search needs) (λ c. search needs) returns)

@@ -25,14 +25,13 @@ loop-holds : tie.Need-loop-holds Inv-loop μ-loop
 unfolding plain remainder
 loop-holds c = (search needs, refl)
 
-joined-lt : (bytes : List ℕ) (p byte : ℕ) → byte < 256 → p ≡ number (plain (bitsOf bytes)) → bitXor (p - p % 2) byte < 8388608
+joined-lt : (bytes : List ℕ) (p byte : ℕ) → byte < 256 → p ≡ number (plain (bitsOf bytes)) → bitXor (p - p % 2) byte < 256
 joined-lt bytes p byte h e =
     let l : p < 256 = plain-lt bytes p e in
-    let x : bitXor (p - p % 2) byte < 256 = xor-lt 8 (p - p % 2) byte (omega arith) h in
-    omega arith
+    xor-lt 8 (p - p % 2) byte (omega arith) h
 
-plain-of-requires : tie.Need-plain-of-requires Inv-loop μ-loop
-plain-of-requires c κs = joined-lt (take (c .before .before .before .loop .i) (c .before .before .before .before .before .args .block .now)) (c .before .before .before .loop .plain) (c .wide .result) (c .wide .ensures .1) (c .before .before .before .loop .inv .1)
+plain-of-byte-requires : tie.Need-plain-of-byte-requires Inv-loop μ-loop
+plain-of-byte-requires c κs = joined-lt (take (c .before .before .before .loop .i) (c .before .before .before .before .before .args .block .now)) (c .before .before .before .loop .plain) (c .wide .result) (c .wide .ensures .1) (c .before .before .before .loop .inv .1)
 
 more : (block : List ℕ) (i p byte r : ℕ) → i < length block → byte ≡ getD block i 0 → byte < 256 → p ≡ number (plain (bitsOf (take i block)))
     → r ≡ number (plain (bits 64 (bitXor (p - p % 2) byte))) → bitXor r (p % 2) ≡ number (plain (bitsOf (take (i + 1) block)))
@@ -44,8 +43,8 @@ more block i p byte r h b g e s =
 loop-again : tie.Need-loop-again Inv-loop μ-loop
 loop-again c = (
   search needs,
-  more (c .before .before .before .before .before .before .args .block .now) (c .before .before .before .before .loop .i) (c .before .before .before .before .loop .plain) (c .before .wide .result) (c .plain-of .result)
-      (omega arith) (c .before .wide .ensures .0) (c .before .wide .ensures .1) (c .before .before .before .before .loop .inv .1) (c .plain-of .ensures .0),
+  more (c .before .before .before .before .before .before .before .args .block .now) (c .before .before .before .before .before .loop .i) (c .before .before .before .before .before .loop .plain) (c .before .before .wide .result) (c .wide2 .result)
+      (omega arith) (c .before .before .wide .ensures .0) (c .before .before .wide .ensures .1) (c .before .before .before .before .before .loop .inv .1) (c .wide2 .ensures .0 ∙ c .before .plain-of-byte .ensures),
 )
 
 whole : (block : List ℕ) (i p : ℕ) → length block ≤ i → p ≡ number (plain (bitsOf (take i block))) → p ≡ number (plain (bitsOf block))
@@ -67,7 +66,8 @@ plain-by-bytes-spec =
     (λ c. omega arith)
     (λ c. search needs)
     (λ c κs. search needs)
-    plain-of-requires
+    plain-of-byte-requires
+    (λ c κs. search needs)
     (λ c. search needs)
     (λ c. search needs)
     loop-again

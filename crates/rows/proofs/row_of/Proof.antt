@@ -2,9 +2,10 @@
 -- Assumes nothing.
 use mathlib.Core.Path.{_≡_, refl, sym, ap, _∙_}
 use mathlib.Core.List.{List}
-use Prim.Native.Nat.{ℕ, zero, suc, _≤_}
+use Prim.Native.Nat.{ℕ}
 use native.Mathlib.Omega.{arith}
 use borrow.Author.Needs.{needs}
+use Rattle.checks.proofs.Tests.{beyond}
 use Rattle.rows.specs.Rows.{dataBits, reserved, dataBytes, blocks, frameBytes, lineBits, rowOf}
 use Rattle.rows.proofs.Rows.{row-out}
 use Rattle.rows.proofs.row_of.Statement.{statement}
@@ -12,15 +13,6 @@ use Rattle.rows.proofs.row_of.Tie as tie
 
 is-row : (k f : ℕ) (row : List ℕ) → f ≡ k → row ≡ rowOf k → row ≡ rowOf f
 is-row k f row e h = h ∙ ap rowOf (sym e)
-
--- f is none of the numbers below k
-abbrev Others : ℕ → ℕ → Type 0
-Others f zero = Unit
-Others f (suc k) = Others f k × (f ≡ k → ⊥)
-
-beyond : (f k : ℕ) → Others f k → k ≤ f
-beyond f zero o = omega arith
-beyond f (suc k) o = let h : k ≤ f = beyond f k (o .0) in let n : (f ≡ k → ⊥) = o .1 in omega arith
 
 pub row-of-spec : {M : Type 1} → statement M
 unfolding dataBits reserved dataBytes blocks frameBytes lineBits rowOf

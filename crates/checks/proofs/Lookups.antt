@@ -1,0 +1,62 @@
+-- The check bits of a number are the sum of those of its parts, four bits each.
+-- Assumes nothing.
+use mathlib.Core.Path.{_≡_, sym, ap, ap₂, _∙_}
+use Prim.Native.Nat.{ℕ, _+_, _*_, _/_, _%_, _^_, _<_}
+use native.Mathlib.Omega.{arith}
+use lib.Bits.{bitXor, xor-shifted}
+use Rattle.checks.specs.Bits.{bits, number}
+use Rattle.checks.specs.Check.{plain}
+use Rattle.checks.proofs.Polynomials.{same}
+use Rattle.checks.proofs.Numbers.{length-bits, bits-xor}
+use Rattle.checks.proofs.Parity.{length-plain}
+use Rattle.checks.proofs.Distance.{plain-add}
+use Rattle.checks.proofs.Runs.{number-add}
+
+-- what a number of 64 bits leaves
+abbrev pub left : ℕ → ℕ
+left n = number (plain (bits 64 n))
+
+left-xor : (m n : ℕ) → bitXor (left m) (left n) ≡ left (bitXor m n)
+left-xor m n =
+    number-add (plain (bits 64 m)) (plain (bits 64 n)) (length-plain (bits 64 m)) (length-plain (bits 64 n))
+    ∙ ap number (plain-add (same (bits 64 m) (bits 64 n) (length-bits 64 m ∙ sym (length-bits 64 n))) ∙ ap plain (sym (bits-xor 64 m n)))
+
+-- one part more, below a multiple of 2^k
+more : (k a m n : ℕ) {p q : ℕ} → m ≡ a * 2 ^ k → n < 2 ^ k → p ≡ left m → q ≡ left n → bitXor p q ≡ left (m + n)
+more k a m n e h ep eq = ap₂ bitXor ep eq ∙ left-xor m n ∙ ap left (ap (λ (x : ℕ). bitXor x n) e ∙ xor-shifted a k n h ∙ ap (λ (x : ℕ). x + n) (sym e))
+
+pub of-byte : (v : ℕ) {a b : ℕ} → v < 256 → a ≡ left (v / 2 ^ 4 % 16 * 2 ^ 4) → b ≡ left (v % 16) → bitXor a b ≡ left v
+of-byte v h ea eb =
+    more 4 (v / 2 ^ 4 % 16) (v / 2 ^ 4 % 16 * 2 ^ 4) (v % 16) (omega arith) (omega arith) ea eb
+    ∙ ap left (let e : v / 2 ^ 4 % 16 * 2 ^ 4 + v % 16 ≡ v = omega arith in e)
+
+-- the twelve bits below a multiple of 2^12
+twelve : (v m k : ℕ) {p b c d : ℕ} → m ≡ k * 2 ^ 12 → p ≡ left m → b ≡ left (v / 2 ^ 8 % 16 * 2 ^ 8) → c ≡ left (v / 2 ^ 4 % 16 * 2 ^ 4) → d ≡ left (v % 16)
+    → bitXor (bitXor (bitXor p b) c) d ≡ left (m + v % 4096)
+twelve v m k e ep eb ec ed =
+    more 4 (k * 256 + v / 2 ^ 8 % 16 * 16 + v / 2 ^ 4 % 16) (m + v / 2 ^ 8 % 16 * 2 ^ 8 + v / 2 ^ 4 % 16 * 2 ^ 4) (v % 16) (omega arith) (omega arith)
+    (more 8 (k * 16 + v / 2 ^ 8 % 16) (m + v / 2 ^ 8 % 16 * 2 ^ 8) (v / 2 ^ 4 % 16 * 2 ^ 4) (omega arith) (omega arith)
+    (more 12 k m (v / 2 ^ 8 % 16 * 2 ^ 8) e (omega arith) ep eb) ec) ed
+    ∙ ap left (let s : m + v / 2 ^ 8 % 16 * 2 ^ 8 + v / 2 ^ 4 % 16 * 2 ^ 4 + v % 16 ≡ m + v % 4096 = omega arith in s)
+
+pub of-word : (v : ℕ) {a b c d : ℕ} → v < 65536
+    → a ≡ left (v / 2 ^ 12 % 16 * 2 ^ 12) → b ≡ left (v / 2 ^ 8 % 16 * 2 ^ 8) → c ≡ left (v / 2 ^ 4 % 16 * 2 ^ 4) → d ≡ left (v % 16)
+    → bitXor (bitXor (bitXor a b) c) d ≡ left v
+of-word v h ea eb ec ed =
+    twelve v (v / 2 ^ 12 % 16 * 2 ^ 12) (v / 2 ^ 12 % 16) (omega arith) ea eb ec ed
+    ∙ ap left (let s : v / 2 ^ 12 % 16 * 2 ^ 12 + v % 4096 ≡ v = omega arith in s)
+
+pub of-three : (v : ℕ) {a b c d e f : ℕ} → v < 16777216
+    → a ≡ left (v / 2 ^ 20 % 16 * 2 ^ 20) → b ≡ left (v / 2 ^ 16 % 16 * 2 ^ 16) → c ≡ left (v / 2 ^ 12 % 16 * 2 ^ 12)
+    → d ≡ left (v / 2 ^ 8 % 16 * 2 ^ 8) → e ≡ left (v / 2 ^ 4 % 16 * 2 ^ 4) → f ≡ left (v % 16)
+    → bitXor (bitXor (bitXor (bitXor (bitXor a b) c) d) e) f ≡ left v
+of-three v h ea eb ec ed ee ef =
+    twelve v (v / 2 ^ 20 % 16 * 2 ^ 20 + v / 2 ^ 16 % 16 * 2 ^ 16 + v / 2 ^ 12 % 16 * 2 ^ 12) (v / 2 ^ 20 % 16 * 256 + v / 2 ^ 16 % 16 * 16 + v / 2 ^ 12 % 16) (omega arith)
+    (more 16 (v / 2 ^ 20 % 16 * 16 + v / 2 ^ 16 % 16) (v / 2 ^ 20 % 16 * 2 ^ 20 + v / 2 ^ 16 % 16 * 2 ^ 16) (v / 2 ^ 12 % 16 * 2 ^ 12) (omega arith) (omega arith)
+    (more 20 (v / 2 ^ 20 % 16) (v / 2 ^ 20 % 16 * 2 ^ 20) (v / 2 ^ 16 % 16 * 2 ^ 16) (omega arith) (omega arith) ea eb) ec) ed ee ef
+    ∙ ap left (let high : v / 2 ^ 16 ≡ v / 2 ^ 12 / 16 = omega arith in
+    let top : v / 2 ^ 20 ≡ v / 2 ^ 16 / 16 = omega arith in
+    let most : v / 2 ^ 16 < 256 = omega arith in
+    let upper : v / 2 ^ 20 % 16 * 16 + v / 2 ^ 16 % 16 ≡ v / 2 ^ 16 = omega arith in
+    let s : v / 2 ^ 20 % 16 * 2 ^ 20 + v / 2 ^ 16 % 16 * 2 ^ 16 + v / 2 ^ 12 % 16 * 2 ^ 12 + v % 4096 ≡ v = omega arith in
+    s)
