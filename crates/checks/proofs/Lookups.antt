@@ -16,6 +16,10 @@ use Rattle.checks.proofs.Runs.{number-add}
 abbrev pub left : ℕ → ℕ
 left n = number (plain (bits 64 n))
 
+-- a value looked up at n, where four is n
+pub entry : (part : ℕ → ℕ) (n four : ℕ) {v : ℕ} → four ≡ n → v ≡ left (part n) → v ≡ left (part four)
+entry part n four e h = h ∙ ap (λ (x : ℕ). left (part x)) (sym e)
+
 left-xor : (m n : ℕ) → bitXor (left m) (left n) ≡ left (bitXor m n)
 left-xor m n =
     number-add (plain (bits 64 m)) (plain (bits 64 n)) (length-plain (bits 64 m)) (length-plain (bits 64 n))

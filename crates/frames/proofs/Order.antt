@@ -17,7 +17,7 @@ use Rattle.frames.specs.Slave.{slaveFrame, slaveData, slaveReadBy, slave
 use Rattle.frames.specs.Answers.{toldLine}
 use Rattle.frames.specs.Line.{answerOf, lineAnswer}
 use Rattle.frames.specs.declared.LineAnswer.the-variants.{Silence, Reply, Collision}
-use Rattle.rows.proofs.Rows.{full, whole}
+use Rattle.rows.proofs.Rows.{full, whole, lone-word}
 
 -- ---- what the code's test of `allowed` shows
 
@@ -62,13 +62,22 @@ module _ {ℓ} {A : Type ℓ} (f : ℕ) (w : List ℕ) (room : ℕ) (refused : �
   pub write-done : reserved f ≡ false → length w ≡ dataBytes f → frameBytes f ≤ room → done ≡ slaveWriteBy f w room refused done
   write-done a b c = simp (a, eq-eqb (length w) (dataBytes f) b, le-ltb room (frameBytes f) c)
 
--- all the blocks, with and without their check sequences, lie within what is long enough
-module _ (f : ℕ) {allowed : Bool} {d size-of-frame count size : ℕ} (s : Shaped f allowed d size-of-frame count size) {n : ℕ} where
-  pub frame-within : size-of-frame ≤ n → count * (size + 1) ≤ n
-  frame-within h = let e : count * (size + 1) ≡ frameBytes f = ap₂ (λ (k m : ℕ). k * (m + 1)) (s .3) (s .4) ∙ whole f in omega (arith, s .2)
+-- all the blocks, with and without their check sequences; a block of two bytes is the only one
+module _ (f : ℕ) {allowed : Bool} {d size-of-frame count size : ℕ} (s : Shaped f allowed d size-of-frame count size) where
+  pub in-frame : count * (size + 1) ≡ size-of-frame
+  in-frame = ap₂ (λ (k m : ℕ). k * (m + 1)) (s .3) (s .4) ∙ whole f ∙ sym (s .2)
 
-  pub data-within : d ≤ n → count * size ≤ n
-  data-within h = let e : count * size ≡ dataBytes f = ap₂ (λ (k m : ℕ). k * m) (s .3) (s .4) ∙ full f in omega (arith, s .1)
+  pub in-data : count * size ≡ d
+  in-data = ap₂ (λ (k m : ℕ). k * m) (s .3) (s .4) ∙ full f ∙ sym (s .1)
+
+  pub frame-within : {n : ℕ} → size-of-frame ≤ n → count * (size + 1) ≤ n
+  frame-within h = omega (arith, in-frame)
+
+  pub data-within : {n : ℕ} → d ≤ n → count * size ≤ n
+  data-within h = omega (arith, in-data)
+
+  pub one-word : size ≡ 2 → count ≡ 1
+  one-word e = s .3 ∙ lone-word f (sym (s .4) ∙ e)
 
 module _ (f : ℕ) (w out : List ℕ) {allowed : Bool} {d size-of-frame count size : ℕ} (s : Shaped f allowed d size-of-frame count size) where
   pub slave-read-3 : not allowed ≡ true → (refusal 3 ≡ slaveRead f w (length out)) × (out ≡ slaveReadOut f w out)

@@ -7,8 +7,22 @@ ghost use lib.ListN.{length, drop};
 ghost use Rattle.frames.specs.Words.{wordBytes};
 ghost use Rattle.frames.specs.Blocks.{rightBlocks, dataIn, framed};
 
-// How many of so many blocks of `size` bytes, from the first, are followed by their check sequence.
+// How many of so many blocks of `size` bytes, from the first, are followed by their check sequence. For eight bytes,
+// a constant, the compiler writes the loop out; a word's check sequence is taken by value.
 pub(crate) fn right_blocks(frame: &[u8], count: usize, size: usize) -> usize
+    requires { ⌜ (count * (size + 1) ≡ length (now frame)) × (size ≡ 2 → count ≡ 1) ⌝ }
+    ensures { λ r. ⌜ r ≡ rightBlocks count size (now (frame .entry)) ⌝ }
+{
+    if size == 8 {
+        return right_run(frame, count, 8);
+    }
+    if size == 2 {
+        return right_word(frame);
+    }
+    right_run(frame, count, size)
+}
+
+fn right_run(frame: &[u8], count: usize, size: usize) -> usize
     requires { ⌜ count * (size + 1) ≤ length (now frame) ⌝ }
     ensures { λ r. ⌜ r ≡ rightBlocks count size (now (frame .entry)) ⌝ }
 {
@@ -41,6 +55,17 @@ pub(crate) fn copy_blocks(frame: &[u8], count: usize, size: usize, out: &mut [u8
     requires { ⌜ (count * (size + 1) ≤ length (now frame)) × (count * size ≤ length (now out)) ⌝ }
     ensures { λ _. ⌜ now (out .exit) ≡ dataIn count size (now (frame .entry)) ++ drop (count * size) (now (out .entry)) ⌝ }
 {
+    if size == 8 {
+        copy_run(frame, count, 8, out);
+    } else {
+        copy_run(frame, count, size, out);
+    }
+}
+
+fn copy_run(frame: &[u8], count: usize, size: usize, out: &mut [u8])
+    requires { ⌜ (count * (size + 1) ≤ length (now frame)) × (count * size ≤ length (now out)) ⌝ }
+    ensures { λ _. ⌜ now (out .exit) ≡ dataIn count size (now (frame .entry)) ++ drop (count * size) (now (out .entry)) ⌝ }
+{
     let mut at: usize = 0;
     let mut to: usize = 0;
     let mut left = count;
@@ -55,6 +80,19 @@ pub(crate) fn copy_blocks(frame: &[u8], count: usize, size: usize, out: &mut [u8
 
 // The frame of so many blocks of `size` bytes of data, at the start of `out`.
 pub(crate) fn write_blocks(data: &[u8], count: usize, size: usize, out: &mut [u8])
+    requires { ⌜ (count * size ≡ length (now «data»)) × (count * (size + 1) ≤ length (now out)) × (size ≡ 2 → count ≡ 1) ⌝ }
+    ensures { λ _. ⌜ now (out .exit) ≡ framed count size (now («data» .entry)) ++ drop (count * (size + 1)) (now (out .entry)) ⌝ }
+{
+    if size == 8 {
+        write_run(data, count, 8, out);
+    } else if size == 2 {
+        write_word(word_of(data[0], data[1]), out);
+    } else {
+        write_run(data, count, size, out);
+    }
+}
+
+fn write_run(data: &[u8], count: usize, size: usize, out: &mut [u8])
     requires { ⌜ (count * size ≤ length (now «data»)) × (count * (size + 1) ≤ length (now out)) ⌝ }
     ensures { λ _. ⌜ now (out .exit) ≡ framed count size (now («data» .entry)) ++ drop (count * (size + 1)) (now (out .entry)) ⌝ }
 {

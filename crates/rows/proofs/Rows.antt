@@ -83,6 +83,11 @@ pub whole : (f : ℕ) → blocks f * (blockBytes f + 1) ≡ frameBytes f
 unfolding frameBytes
 whole f = mul-add (blocks f) (blockBytes f) 1 ∙ ap₂ (λ (a b : ℕ). a + b) (full f) (mul-one (blocks f))
 
+-- a block of two bytes is the only one
+pub lone-word : (f : ℕ) → blockBytes f ≡ 2 → blocks f ≡ 1
+unfolding blockBytes blocks dataBytes
+lone-word f e = omega arith
+
 pub block-most : (f : ℕ) → blockBytes f ≤ 8
 unfolding blockBytes
 block-most f = omega arith

@@ -1,9 +1,9 @@
 -- `frames::slave_read` meets its contract: each way out is one of the order of checks.
 -- Assumes nothing.
-use mathlib.Core.Path.{sym}
+use mathlib.Core.Path.{sym, _∙_}
 use native.Mathlib.Nat.{le-of-eq}
 use borrow.Author.Needs.{needs}
-use Rattle.frames.proofs.Order.{frame-within, data-within, slave-read-3, slave-read-1, slave-read-2, slave-read-4, slave-read-done}
+use Rattle.frames.proofs.Order.{in-frame, data-within, one-word, slave-read-3, slave-read-1, slave-read-2, slave-read-4, slave-read-done}
 use Rattle.frames.proofs.slave_read.Statement.{statement}
 use Rattle.frames.proofs.slave_read.Tie as tie
 
@@ -21,7 +21,8 @@ returns-4 c =
 copy-blocks-requires : tie.Need-copy-blocks-requires
 copy-blocks-requires c κs =
     let long : tie.Else2 = c .before .before .before .before .before .before in
-    (frame-within _ (long .before .before .before .before .shape-of .ensures) (le-of-eq (sym (long .if2 .left))), data-within _ (long .before .before .before .before .shape-of .ensures) (c .before .if4 .left))
+    let shape = long .before .before .before .before .shape-of .ensures in
+    (le-of-eq (in-frame _ shape ∙ sym (long .if2 .left)), data-within _ shape (c .before .if4 .left))
 
 returns-5 : tie.Need-returns-5
 returns-5 c =
@@ -37,7 +38,7 @@ slave-read-spec =
     (λ c κs. search needs)
     (λ c. slave-read-3 _ _ _ (c .before .before .shape-of .ensures) (c .if1 .taken))
     (λ c. slave-read-1 _ _ _ (c .before .before .before .before .shape-of .ensures) (c .before .before .if1 .left) (c .if2 .taken))
-    (λ c κs. frame-within _ (c .before .before .before .before .shape-of .ensures) (le-of-eq (sym (c .if2 .left))))
+    (λ c κs. (in-frame _ (c .before .before .before .before .shape-of .ensures) ∙ sym (c .if2 .left), one-word _ (c .before .before .before .before .shape-of .ensures)))
     returns-3
     returns-4
     copy-blocks-requires

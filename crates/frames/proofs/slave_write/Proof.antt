@@ -1,9 +1,8 @@
 -- `frames::slave_write` meets its contract: each way out is one of the order of checks.
 -- Assumes nothing.
-use mathlib.Core.Path.{sym}
-use native.Mathlib.Nat.{le-of-eq}
+use mathlib.Core.Path.{sym, _∙_}
 use borrow.Author.Needs.{needs}
-use Rattle.frames.proofs.Order.{frame-within, data-within, slave-write-3, slave-write-1, slave-write-4, slave-write-done}
+use Rattle.frames.proofs.Order.{in-data, frame-within, one-word, slave-write-3, slave-write-1, slave-write-4, slave-write-done}
 use Rattle.frames.proofs.slave_write.Statement.{statement}
 use Rattle.frames.proofs.slave_write.Tie as tie
 
@@ -15,7 +14,8 @@ returns-3 c =
 write-blocks-requires : tie.Need-write-blocks-requires
 write-blocks-requires c κs =
     let long : tie.Else2 = c .before .before .before in
-    (data-within _ (long .before .before .before .before .shape-of .ensures) (le-of-eq (sym (long .if2 .left))), frame-within _ (long .before .before .before .before .shape-of .ensures) (c .before .if3 .left))
+    let shape = long .before .before .before .before .shape-of .ensures in
+    (in-data _ shape ∙ sym (long .if2 .left), frame-within _ shape (c .before .if3 .left), one-word _ shape)
 
 returns-4 : tie.Need-returns-4
 returns-4 c =

@@ -1,58 +1,35 @@
--- `frames::blocks::right_blocks` meets its contract. The loop's invariant: the blocks passed are right, and those left are counted as the
--- definition counts them.
+-- `frames::blocks::right_blocks` meets its contract, for each size as its own loop or function does.
 -- Assumes nothing.
-use mathlib.Core.Path.{_≡_, refl, sym, _∙_}
-use Prim.Native.Nat.{ℕ, _+_, _-_, _*_, _≤_, _<_}
-use native.Mathlib.Omega.{arith}
+use mathlib.Core.Path.{_≡_, sym, ap, ap₂, _∙_}
+use Prim.Native.Nat.{ℕ, _+_, _*_}
+use native.Mathlib.Nat.{le-of-eq}
 use borrow.Author.Needs.{needs}
-use lib.ListN.{length, drop}
 use Rattle.frames.specs.Blocks.{rightBlocks}
-use Rattle.frames.proofs.BlockLaws.{room-right, wrong-here, right-here, right-all, right-none}
 use Rattle.frames.proofs.blocks.right_blocks.Statement.{statement}
 use Rattle.frames.proofs.blocks.right_blocks.Tie as tie
 
-abbrev Inv-loop : tie.InvT-loop
-Inv-loop frame count size at₀ right₀ at right =
-    (right ≤ count) × (at + (count - right) * (size + 1) ≤ length frame) × (rightBlocks count size frame ≡ right + rightBlocks (count - right) size (drop at frame))
+right-run-requires : tie.Need-right-run-requires
+right-run-requires c κs =
+    let a = c .before .before .args in
+    le-of-eq (ap (λ (n : ℕ). a .count * (n + 1)) (sym (c .if1 .taken)) ∙ c .before .before .pre .0)
 
-abbrev μ-loop : tie.MeasureT-loop
-μ-loop frame count size at₀ right₀ at right = count - right
+returns : tie.Need-returns
+returns c =
+    let a = c .before .before .before .args in
+    c .right-run .ensures ∙ ap (λ (n : ℕ). rightBlocks (a .count) n (a .frame .now)) (sym (c .before .if1 .taken))
 
--- the block at hand lies within the frame
-within : (c : tie.In-loop Inv-loop μ-loop)
-    → c .before .loop .at + c .before .before .before .args .size + 1 + (c .before .before .before .args .count - (c .before .loop .right + 1)) * (c .before .before .before .args .size + 1)
-    ≤ length (c .before .before .before .args .frame .now)
-within c = room-right (c .before .loop .at) (c .before .before .before .args .count) (c .before .loop .right) (c .before .before .before .args .size) (length (c .before .before .before .args .frame .now)) (c .before .loop .inv .1) (c .loop-test .taken)
+right-word-requires : tie.Need-right-word-requires
+right-word-requires c κs =
+    let p = c .before .before .before .pre in
+    sym (p .0) ∙ ap₂ (λ (k n : ℕ). k * (n + 1)) (p .1 (c .if2 .taken)) (c .if2 .taken)
 
-returns : tie.Need-returns Inv-loop μ-loop
-returns c = wrong-here _ _ _ _ _ _ (c .before .before .before .before .loop-test .taken) (c .before .before .check-of .ensures) (c .if1 .taken) (c .before .before .before .before .before .loop .inv .2)
-
-loop-again : tie.Need-loop-again Inv-loop μ-loop
-loop-again c = (
-  omega arith,
-  within (c .before .before .before .before),
-  right-here _ _ _ _ _ _ (c .before .before .before .before .loop-test .taken) (c .before .before .check-of .ensures) (c .if1 .left) (c .before .before .before .before .before .loop .inv .2),
-)
-
-returns-2 : tie.Need-returns-2 Inv-loop μ-loop
-returns-2 c = right-all (c .before .before .before .args .frame .now) (c .before .loop .at) _ _ _ (c .loop-test .left) (c .before .loop .inv .2)
+returns-2 : tie.Need-returns-2
+returns-2 c =
+    let a = c .before .before .before .before .args in
+    let p = c .before .before .before .before .pre in
+    c .right-word .ensures ∙ ap₂ (λ (k n : ℕ). rightBlocks k n (a .frame .now)) (sym (p .1 (c .before .if2 .taken))) (sym (c .before .if2 .taken))
 
 pub right-blocks-spec : {M : Type 1} → statement M
 right-blocks-spec =
     tie.close
-    (tie.spec
-    Inv-loop
-    μ-loop
-    (λ c. right-none _ _ _ (c .before .pre))
-    (λ c. omega (arith, within c))
-    (λ c. omega arith)
-    (λ c. search needs)
-    (λ c. omega (arith, within c))
-    (λ c κs. tt)
-    (λ c. omega (arith, within (c .before .before .before)))
-    returns
-    (λ c. omega (arith, within (c .before .before .before .before)))
-    (λ c. omega arith)
-    (λ c. omega arith)
-    loop-again
-    returns-2)
+    (tie.spec right-run-requires returns right-word-requires returns-2 (λ c κs. le-of-eq (c .before .before .before .pre .0)) (λ c. search needs))

@@ -1,73 +1,64 @@
--- `frames::blocks::write_blocks` meets its contract: each turn writes one block and its check sequence.
+-- `frames::blocks::write_blocks` meets its contract, for each size as its own loop or function does.
 -- Assumes nothing.
-use mathlib.Core.Path.{sym, subst}
-use Prim.Native.Nat.{ℕ, _+_, _-_, _*_, _≤_, _<_}
+use mathlib.Core.Path.{_≡_, sym, ap, ap₂, _∙_, subst, subst₂}
+use mathlib.Core.List.{_++_}
+use Prim.Native.Nat.{ℕ, _+_, _*_, _≤_}
+use native.Mathlib.Nat.{le-of-eq}
 use native.Mathlib.Omega.{arith}
 use borrow.Author.Needs.{needs}
-use lib.ListN.{length, length-take, length-drop}
+use lib.ListN.{length, drop}
 use Rattle.frames.specs.Blocks.{framed}
-use Rattle.frames.proofs.Turns.{Going, going-start, going-in, write-room, going-end, write-turn, copied-length, nothing-framed}
+use Rattle.frames.proofs.WordLaws.{two-written}
 use Rattle.frames.proofs.blocks.write_blocks.Statement.{statement}
 use Rattle.frames.proofs.blocks.write_blocks.Tie as tie
 
-abbrev Inv-loop : tie.InvT-loop
-Inv-loop «data» count size out₀ at₀ to₀ left₀ out at to left = Going (λ k w. framed k size w) size (size + 1) «data» out₀ out count at to left
-
-abbrev μ-loop : tie.MeasureT-loop
-μ-loop «data» count size out₀ at₀ to₀ left₀ out at to left = left
-
--- the block at hand lies within the data, and with its check sequence within the output
-in-data : (c : tie.In-loop Inv-loop μ-loop) → c .before .loop .at + c .before .before .before .before .args .size ≤ length (c .before .before .before .before .args .«data» .now)
-in-data c = going-in (c .before .loop .inv) (c .loop-test .taken)
-
-in-out : (c : tie.In-loop Inv-loop μ-loop) → c .before .loop .to + c .before .before .before .before .args .size + 1 ≤ length (c .before .loop .out)
-in-out c = write-room _ _ _ _ _ _ _ _ (c .before .loop .inv) (c .loop-test .taken) (c .before .before .before .before .pre .1)
-
--- the output is as long after the copy
-slice-write-out : tie.Need-slice-write-out Inv-loop μ-loop
-slice-write-out c =
-    let place : tie.In-loop Inv-loop μ-loop = c .before .before .before .before .before .before .before in
-    omega (
-      arith,
-      in-out place,
-      copied-length (place .before .loop .out) (place .before .before .before .before .args .«data» .now) (c .before .before .before .before .copy .last .1 .0) (place .before .loop .at) (place .before .loop .to) (place .before .before .before .before .args .size)
-          (in-data place) (omega (arith, in-out place)) (c .before .before .before .before .copy .ensures .1),
+write-run-requires : tie.Need-write-run-requires
+write-run-requires c κs =
+    let a = c .before .before .before .before .args in
+    let p = c .before .before .before .before .pre in (
+      le-of-eq (ap (λ (n : ℕ). a .count * n) (sym (c .before .if1 .taken)) ∙ p .0),
+      subst (λ (n : ℕ). a .count * (n + 1) ≤ length (a .out .now)) (c .before .if1 .taken) (p .1),
     )
 
-loop-again : tie.Need-loop-again Inv-loop μ-loop
-loop-again c =
-    write-turn _ _ _ _ _ _ _ _ _ _ (c .before .before .before .before .before .before .before .before .loop .inv) (c .before .before .before .before .before .before .before .loop-test .taken)
-    (c .before .before .before .before .before .before .before .before .before .before .before .pre .1) (c .before .before .before .before .copy .ensures .1) (c .check-of .ensures)
+-- a word has two bytes, and its frame three
+two : (c : tie.Then2) → length (c .before .before .before .before .args .«data» .now) ≡ 2
+two c = let p = c .before .before .before .before .pre in sym (p .0) ∙ ap₂ (λ (k n : ℕ). k * n) (p .2 (c .if2 .taken)) (c .if2 .taken)
 
-returns : tie.Need-returns Inv-loop μ-loop
+three : (c : tie.Then2) → 3 ≤ length (c .before .before .before .before .args .out .now)
+three c =
+    let a = c .before .before .before .before .args in
+    let p = c .before .before .before .before .pre in
+    subst₂ (λ (k n : ℕ). k * (n + 1) ≤ length (a .out .now)) (p .2 (c .if2 .taken)) (c .if2 .taken) (p .1)
+
+returns : tie.Need-returns
 returns c =
-    going-end (c .before .loop .inv) (omega arith)
-    (nothing-framed (c .before .loop .left) _ _ (omega arith))
+    let a = c .before .before .before .before .before .before .before .args in
+    c .before .before .write-run .ensures
+    ∙ ap (λ (n : ℕ). framed (a .count) n (a .«data» .now) ++ drop (a .count * (n + 1)) (a .out .now)) (sym (c .before .before .before .before .if1 .taken))
+
+returns-2 : tie.Need-returns-2
+returns-2 c =
+    let w = c .before .before in
+    let k = w .before .before .before in
+    let t : tie.Then2 = k .before .before in
+    let a = t .before .before .before .before .args in
+    let p = t .before .before .before .before .pre in
+    two-written (a .«data» .now) (a .out .now) _ (w .before .before .word-of .result) (two t) (w .before .before .word-of .ensures) (k .shared-slice-known3 .given 1 .fits) (w .write-word .ensures)
+    ∙ ap₂ (λ (k n : ℕ). framed k n (a .«data» .now) ++ drop (k * (n + 1)) (a .out .now)) (sym (p .2 (t .if2 .taken))) (sym (t .if2 .taken))
 
 pub write-blocks-spec : {M : Type 1} → statement M
 write-blocks-spec =
     tie.close
     (tie.spec
-    Inv-loop
-    μ-loop
-    (λ c. going-start _ _ _ _ _ _ (c .before .before .pre .0))
-    (λ c. omega (arith, in-data c))
-    (λ c. omega arith)
+    write-run-requires
+    (λ c. omega (arith, two (c .before)))
+    (λ c. omega (arith, two (c .before .before)))
+    (λ c κs. search needs)
+    (λ c κs. three (c .before .before .before .before))
+    (λ c κs. (le-of-eq (c .before .before .before .before .before .pre .0), c .before .before .before .before .before .pre .1))
     (λ c. search needs)
-    (λ c. omega (arith, in-data c))
-    (λ c. omega (arith, in-out (c .before)))
-    (λ c. omega (arith, in-out (c .before)))
+    returns
     (λ c. search needs)
-    (λ c κs. simp (length-take, length-drop) (omega (arith, in-data (c .before .before), in-out (c .before .before))))
-    (λ c. omega arith)
+    returns-2
     (λ c. search needs)
-    (λ c. omega (arith, in-data (c .before .before .before .before .before)))
-    (λ c κs. tt)
-    (λ c. omega (arith, in-out (c .before .before .before .before .before .before .before)))
-    slice-write-out
-    (λ c. omega (arith, in-out (c .before .before .before .before .before .before .before)))
-    (λ c. omega arith)
-    (λ c. omega arith)
-    loop-again
-    (λ c. c .before .loop .inv .long)
-    returns)
+    (λ c. search needs))
