@@ -16,6 +16,7 @@ use Rattle.checks.specs.Check.{plain, checkBits, checkOf}
 use Rattle.checks.proofs.Numbers.{number-byte-lt}
 use Rattle.checks.proofs.Parity.{length-plain}
 use Rattle.checks.proofs as checks
+use Rattle.rows.proofs as row-table
 use Rattle.frames.proofs as frames
 use Rattle.frames.specs.declared.LineAnswer.{LineAnswer}
 use Rattle.frames.specs.declared.LineAnswer.the-variants.{Silence, Reply, Collision}
@@ -106,7 +107,7 @@ check-of-word = record {
 
 pub row-of : Shown table.row-of
 row-of = record {
-  promised = λ M 𝓤 H 𝓜 𝓖 𝓡. frames.row_of.Met.met 𝓤 H 𝓜 𝓖 𝓡;
+  promised = λ M 𝓤 H 𝓜 𝓖 𝓡. row-table.row_of.Met.met 𝓤 H 𝓜 𝓖 𝓡;
   says = said table.row-of _ (λ M 𝓤 H A mem run κs a. refl);
   refusing = λ κs a r ws c. answers _;
   one = λ κs a r s ws vs c d. (c ∙ sym d, refl);

@@ -19,6 +19,7 @@ use Rattle.refusals.specs.Told.{Told, gives}
 use Rattle.refusals.specs.Codes.{toldCode}
 use Rattle.checks.proofs as checks
 use Rattle.checks.specs.Bits.{one}
+use Rattle.rows.proofs as row-table
 use Rattle.frames.proofs as frames
 use Rattle.frames.specs.Answers.{toldWord, toldWrote, toldLine}
 use Rattle.timing.proofs as timing
@@ -86,7 +87,7 @@ check-of-word = record { ended = checks.check_of_word.ended; routine = checks.ch
 
 -- the row of any F_code
 abbrev pub row-of : EntryPoint
-row-of = record { ended = frames.row_of.ended; routine = frames.row_of.Symbol.routine; promise = frames.row_of.clauses; refuses = []; told = λ κs r. gives r; at-exit = λ κs e. e }
+row-of = record { ended = row-table.row_of.ended; routine = row-table.row_of.Symbol.routine; promise = row-table.row_of.clauses; refuses = []; told = λ κs r. gives r; at-exit = λ κs e. e }
 
 -- "Master read: 1, 2, 3"
 abbrev pub master-read : EntryPoint
