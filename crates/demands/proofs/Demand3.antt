@@ -24,7 +24,8 @@ use Rattle.rounds.proofs.Demand as rounds
 use Rattle.rounds.proofs.Bytes.{trueBytes}
 use Rattle.rounds.proofs.Exists.{trueLine}
 use Rattle.list_laws.specs.Written.{All}
-use Rattle.periods.specs.Once.{one, times}
+use Rattle.checks.specs.Bits.{one}
+use Rattle.periods.specs.Once.{times}
 use Rattle.demands.proofs.AsCPlays.{plays}
 use Rattle.demands.proofs.Members.{is-among, not-among, member-times, times-member}
 use Rattle.demands.specs.Demand3.{Different, Devices, among, have, requestsIn, EachRead, Ends, Demand3}

@@ -9,7 +9,8 @@ use native.Mathlib.Decide.{ℕ-discrete}
 use native.Mathlib.Omega.{arith}
 use lib.Dec.{eqb}
 use borrow.Author.Tests.{eq-eqb, ne-eqb, eqb-true}
-use Rattle.periods.specs.Once.{one, times}
+use Rattle.checks.specs.Bits.{one}
+use Rattle.periods.specs.Once.{times}
 use Rattle.demands.specs.Demand3.{among}
 
 pub is-among : (a : ℕ) (l : List ℕ) → among a l ≡ true → List·Memᴰ a l

@@ -26,7 +26,8 @@ use Rattle.rounds.specs.Demand.{Truthful, readOrder}
 use Rattle.rounds.specs.Bytes.{ByteLine, MadeFrom, TruthfulBytes}
 use Rattle.mvb.specs.Rounds.{stored, toldStep, startAnswer, startRun, roundAnswer, roundRun}
 use Rattle.list_laws.specs.Written.{All}
-use Rattle.periods.specs.Once.{one, times}
+use Rattle.checks.specs.Bits.{one}
+use Rattle.periods.specs.Once.{times}
 
 -- no number stands twice
 abbrev pub Different : List ℕ → Type 0

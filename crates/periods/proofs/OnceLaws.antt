@@ -24,7 +24,8 @@ use Rattle.list_laws.proofs.ClashLaws.{listable-prop, prop-listable}
 use Rattle.lists.proofs.ListLaws.{periods-power}
 use Rattle.lists.proofs.SentLaws.{words-append}
 use Rattle.list_laws.proofs.Acceptance.{accepted-obeys, obey-listable}
-use Rattle.periods.specs.Once.{one, times, sentIn, OnceIn}
+use Rattle.checks.specs.Bits.{one}
+use Rattle.periods.specs.Once.{times, sentIn, OnceIn}
 use Rattle.periods.proofs.PeriodLaws.{sent-append, obey-right}
 
 -- f 0 + f 1 + .. + f (k - 1)

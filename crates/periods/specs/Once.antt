@@ -3,15 +3,10 @@
 use Prim.Native.Nat.{ℕ, zero, suc, _+_, _^_, _%_, _<_}
 use mathlib.Core.Path.{_≡_}
 use mathlib.Core.List.{List, [], _∷_}
-use mathlib.Core.Bool.{Bool, true, false}
 use lib.Dec.{eqb}
-use Rattle.lists.specs.Values.{Cycle, PeriodicList, periodsOf}
+use Rattle.checks.specs.Bits.{one}
+use Rattle.lists.specs.Values.{PeriodicList, periodsOf}
 use Rattle.lists.specs.Sends.{sends}
-
--- a test as a number
-abbrev pub one : Bool → ℕ
-one true = 1
-one false = 0
 
 -- how often a word stands in a list
 abbrev pub times : ℕ → List ℕ → ℕ
