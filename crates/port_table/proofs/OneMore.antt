@@ -13,7 +13,7 @@ use Rattle.frames.specs.Rows.{dataBytes}
 use Rattle.frames.proofs.Rows.{bits-most}
 use Rattle.port_table.specs.declared.Port.{Port}
 use Rattle.port_table.specs.Table.{rising, good, portBytes, tableBytes, before, placeOf}
-use Rattle.port_table.specs.Seen.{nextFrom, mark, marksFrom}
+use Rattle.port_table.specs.Seen.{nextFrom}
 
 -- ---- truth values
 
@@ -23,10 +23,6 @@ by-cases false f g = g refl
 
 pub not-both : {b : Bool} {X : Type 0} → b ≡ true → b ≡ false → X
 not-both t f = absurd (mathlib.Core.Bool.false≢true (sym f ∙ t))
-
--- four numbers, each by itself
-pub four : {a b c d a' b' c' d' : ℕ} → a ≡ a' → b ≡ b' → c ≡ c' → d ≡ d' → a ∷ b ∷ c ∷ d ∷ [] ≡ a' ∷ b' ∷ c' ∷ d' ∷ []
-four p q r s = ap₂ _∷_ p (ap₂ _∷_ q (ap₂ _∷_ r (ap₂ _∷_ s refl)))
 
 -- ---- sizes
 
@@ -111,11 +107,6 @@ pub next-more : (low : ℕ) (ps : List Port) (p : Port) → nextFrom low (ps ++ 
 unfolding nextFrom
 next-more low [] p = refl
 next-more low (q ∷ ps) p = next-more (q .address + 1) ps p
-
-pub marks-more : (m : List ℕ) (ps : List Port) (p : Port) → marksFrom m (ps ++ p ∷ []) ≡ mark (marksFrom m ps) (p .sink)
-unfolding marksFrom
-marks-more m [] p = refl
-marks-more m (q ∷ ps) p = marks-more (mark m (q .sink)) ps p
 
 -- ---- the place of a port
 

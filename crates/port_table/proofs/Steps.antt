@@ -13,9 +13,9 @@ use Rattle.port_table.specs.declared.Port.{Port}
 use Rattle.port_table.specs.declared.Place.{Place}
 use Rattle.port_table.specs.declared.Seen.{Seen}
 use Rattle.port_table.specs.Table.{rising, good, portBytes, tableBytes, before, placeOf, noPort}
-use Rattle.port_table.specs.Seen.{nextFrom, mark, marksFrom, noMarks, emptySeen, goodSeen, seenOf}
+use Rattle.port_table.specs.Seen.{nextFrom, emptySeen, goodSeen, seenOf}
 use Rattle.port_table.specs.Inside.{Walked, fits, placeAfter}
-use Rattle.port_table.proofs.OneMore.{by-cases, not-both, bytes-most, bytes-more, length-more, good-more, bad-more, next-more, marks-more, before-found, before-missed}
+use Rattle.port_table.proofs.OneMore.{by-cases, not-both, bytes-most, bytes-more, length-more, good-more, bad-more, next-more, before-found, before-missed}
 
 -- ---- what a walk shows
 
@@ -39,7 +39,7 @@ shown-not s a ps e g = sym (shows-good s a ps e) ∙ not-true (s .good) g
 
 -- no record shows what any address finds in a table without one
 pub none-shown : (a : ℕ) → emptySeen true ≡ seenOf a []
-unfolding seenOf good rising nextFrom tableBytes before marksFrom
+unfolding seenOf good rising nextFrom tableBytes before
 none-shown a = refl
 
 -- sizes of what was shown
@@ -136,21 +136,20 @@ module _ (s : Seen) (p : Port) (a : ℕ) (ps : List Port) (e : s ≡ seenOf a ps
     pub turns-bad : not (fits s p) ≡ true → emptySeen false ≡ seenOf a (ps ++ p ∷ [])
     turns-bad f = sym (seen-bad a (ps ++ p ∷ []) (sym after ∙ not-true (fits s p) f))
 
-    pub goes-on : not (fits s p) ≡ false → (size : ℕ) (place : Place) (marks : List ℕ) → size ≡ portBytes p → place ≡ placeAfter s p size a → marks ≡ mark (s .marks) (p .sink)
-        → _≡_ {A = Seen} (record { good = true; next = p .address + 1; count = s .count + 1; bytes = s .bytes + size; place = place; marks = marks }) (seenOf a (ps ++ p ∷ []))
-    goes-on f size place marks h k m =
+    pub goes-on : not (fits s p) ≡ false → (size : ℕ) (place : Place) → size ≡ portBytes p → place ≡ placeAfter s p size a
+        → _≡_ {A = Seen} (record { good = true; next = p .address + 1; count = s .count + 1; bytes = s .bytes + size; place = place }) (seenOf a (ps ++ p ∷ []))
+    goes-on f size place h k =
         let z : s ≡ goodSeen a ps = shown s a ps e g .1 in
-        λ i. sum z h k m (not-false (fits s p) f) i
+        λ i. sum z h k (not-false (fits s p) f) i
       where
-        sum : s ≡ goodSeen a ps → size ≡ portBytes p → place ≡ placeAfter s p size a → marks ≡ mark (s .marks) (p .sink) → fits s p ≡ true
-            → _≡_ {A = Seen} (record { good = true; next = p .address + 1; count = s .count + 1; bytes = s .bytes + size; place = place; marks = marks }) (seenOf a (ps ++ p ∷ []))
-        sum z h k m f =
+        sum : s ≡ goodSeen a ps → size ≡ portBytes p → place ≡ placeAfter s p size a → fits s p ≡ true
+            → _≡_ {A = Seen} (record { good = true; next = p .address + 1; count = s .count + 1; bytes = s .bytes + size; place = place }) (seenOf a (ps ++ p ∷ []))
+        sum z h k f =
             (λ i. record {
               good = true;
               next = sym (next-more 0 ps p) i;
               count = (ap (λ (t : Seen). t .count + 1) z ∙ sym (length-more ps p)) i;
               bytes = (ap₂ (λ (t : Seen) (n : ℕ). t .bytes + n) z h ∙ sym (bytes-more ps p)) i;
               place = (k ∙ ap₂ (λ (t : Seen) (n : ℕ). placeAfter t p n a) z h ∙ place-more a ps p) i;
-              marks = (m ∙ ap (λ (t : Seen). mark (t .marks) (p .sink)) z ∙ sym (marks-more noMarks ps p)) i;
             })
             ∙ sym (seen-good a (ps ++ p ∷ []) (sym after ∙ f))

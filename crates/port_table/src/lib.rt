@@ -21,14 +21,13 @@ pub struct Place {
 }
 
 // What a walk of the table shows: `next` is one more than the last address, `place.at` is `count` where no record has
-// the address, and `marks` holds a bit for each record, 1 for a sink. Of a table that is not good all else is 0.
+// the address. Of a table that is not good all else is 0.
 pub struct Seen {
     pub good: bool,
     pub next: u16,
     pub count: usize,
     pub bytes: usize,
     pub place: Place,
-    pub marks: [u64; 4],
 }
 
 // Goodness test and lookup in one walk.

@@ -4,13 +4,10 @@ use crate::Port;
 use crate::Seen;
 ghost use mathlib.Core.Path.{_≡_};
 ghost use mathlib.Core.Bool.{true};
-ghost use Prim.Native.Nat.{_+_, _*_, _/_, _%_, _^_, _<_};
+ghost use Prim.Native.Nat.{_+_, _<_};
 ghost use Rattle.frames.specs.Rows.{dataBytes};
-ghost use Rattle.port_table.specs.Seen.{emptySeen, markOf, mark};
+ghost use Rattle.port_table.specs.Seen.{emptySeen};
 ghost use Rattle.port_table.specs.Inside.{fits, placeAfter, Walked, WalkedOn};
-
-// The highest bit of 64.
-const TOP: u64 = 9223372036854775808;
 
 // A table without records is good.
 pub(crate) fn none() -> Seen
@@ -33,7 +30,6 @@ fn empty(good: bool) -> Seen
             f_code: 0,
             sink: 0,
         },
-        marks: [0; 4],
     }
 }
 
@@ -92,33 +88,6 @@ fn place_after(seen: Seen, port: Port, size: usize, address: u16) -> Place
     }
 }
 
-fn lowest(part: u64, sink: u8) -> u64
-    ensures { λ r. ⌜ r ≡ part % 2 ^ 63 * 2 + markOf sink ⌝ }
-{
-    if sink == 0 {
-        part % TOP * 2
-    } else {
-        part % TOP * 2 + 1
-    }
-}
-
-fn up(part: u64, below: u64) -> u64
-    ensures { λ r. ⌜ r ≡ part % 2 ^ 63 * 2 + below / 2 ^ 63 ⌝ }
-{
-    part % TOP * 2 + below / TOP
-}
-
-// One mark more, in the lowest of the 256 bits.
-fn marked(marks: [u64; 4], sink: u8) -> [u64; 4]
-    ensures { λ r. ⌜ r ≡ mark marks sink ⌝ }
-{
-    let a = lowest(marks[0], sink);
-    let b = up(marks[1], marks[0]);
-    let c = up(marks[2], marks[1]);
-    let d = up(marks[3], marks[2]);
-    [a, b, c, d]
-}
-
 // What a walk shows after one record more.
 pub(crate) fn step(seen: Seen, port: Port, address: u16) -> Seen
     requires { ⌜ Walked seen address ⌝ }
@@ -133,14 +102,11 @@ pub(crate) fn step(seen: Seen, port: Port, address: u16) -> Seen
     }
     let size = data_bytes(port.f_code);
     let place = place_after(seen, port, size, address);
-    let before = seen.marks;
-    let marks = marked(before, port.sink);
     Seen {
         good: true,
         next: port.address + 1,
         count: seen.count + 1,
         bytes: seen.bytes + size,
         place: place,
-        marks: marks,
     }
 }

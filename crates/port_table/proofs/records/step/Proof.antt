@@ -33,9 +33,9 @@ place-after-requires c κs =
     let k = fit (c .before) in
     (k .count, omega (arith, k .count, small, c .data-bytes .ensures, size-most (start .args .port .«f_code»)))
 
-add-t13 : tie.Need-add-t13
-add-t13 c =
-    let sized : tie.After-data-bytes = c .before .before .before .before .before .before in
+add-t11 : tie.Need-add-t11
+add-t11 c =
+    let sized : tie.After-data-bytes = c .before .before .before .before in
     let start : tie.Start = sized .before .before .before .before in
     let small = walked-small (start .args .seen) (start .args .address) (start .pre) in
     let k = fit (sized .before) in
@@ -43,13 +43,13 @@ add-t13 c =
 
 returns-3 : tie.Need-returns-3
 returns-3 c =
-    let marked : tie.After-marked = c .before .before .before in
-    let sized : tie.After-data-bytes = marked .before .before .before in
+    let placed : tie.After-place-after = c .before .before .before in
+    let sized : tie.After-data-bytes = placed .before in
     let fitting : tie.Else2 = sized .before in
     let start : tie.Start = fitting .before .before .before in
     λ ps e.
-    goes-on (start .args .seen) (start .args .port) (start .args .address) ps e (fitting .before .before .if1 .left) (ap not (sym (fitting .before .follows .ensures)) ∙ fitting .if2 .left) _ _ _
-    (sized .data-bytes .ensures) (marked .before .before .place-after .ensures) (marked .marked .ensures)
+    goes-on (start .args .seen) (start .args .port) (start .args .address) ps e (fitting .before .before .if1 .left) (ap not (sym (fitting .before .follows .ensures)) ∙ fitting .if2 .left) _ _
+    (sized .data-bytes .ensures) (placed .place-after .ensures)
 
 pub step-spec : {M : Type 1} → statement M
 step-spec =
@@ -61,8 +61,7 @@ step-spec =
     returns-2
     (λ c κs. fit c .code)
     place-after-requires
-    (λ c κs. search needs)
-    (λ c. omega (arith, fit (c .before .before .before .before .before) .high))
-    (λ c. omega (arith, fit (c .before .before .before .before .before .before) .count))
-    add-t13
+    (λ c. omega (arith, fit (c .before .before .before) .high))
+    (λ c. omega (arith, fit (c .before .before .before .before) .count))
+    add-t11
     returns-3)
