@@ -33,7 +33,7 @@ use Rattle.ports.specs.Filling.{fillRefusal, fill, fillStore}
 use Rattle.ports.specs.Ticking.{aged, tickRefusal, tick, tickAges}
 use Rattle.ports.specs.Inside.{Arrived, Answered, HasRead, Filled, Showed, tickCode, dueOf}
 use Rattle.frames.proofs.Turns.{length-part}
-use Rattle.ports.proofs.Bytes.{front, front-is}
+use Rattle.ports.proofs.Bytes.{front, front-is, front-whole, from, from-room, putFrom, put-is, put-kept}
 use Rattle.ports.proofs.Ageing.{aged-none}
 use Rattle.ports.proofs.Frames.{frameCheck, outCheck, read-gives, read-refuses, write-gives, write-refuses}
 
@@ -119,23 +119,25 @@ module _ (s : Seen) (store ages : List ℕ) (word : ℕ) (frame : List ℕ) wher
                   arrive-on : arriveAt s store ages word frame ≡ frameCheck (fCode word) frame
                   arrive-on = simp (not-false (s .good) g, le-ltb (length store) (s .bytes) h1, le-ltb (length ages) (s .count) h2, le-ltb 4 (fCode word) (omega arith), lt-ltb (s .place .at) (s .count) h4, eq-eqb (s .place .«f_code») (fCode word) (h5 ∙ ef), ne-eqb (s .place .sink) 0 h6)
 
-                  pub arrive-frame : (room : ℕ) (R : Refusal) → 32 ≤ room → refusing R ≡ slaveRead f frame room → r ≡ codeOf R → Arrived s store ages word frame r store ages
-                  arrive-frame room R k t c =
-                      let n = read-refuses f frame room R h3 k t in
-                      arrive-no (numberOf R) (refusal-told r R c) (n .1) (arrive-on ∙ ap (λ (x : ℕ). frameCheck x frame) (sym ef) ∙ n .0)
+                  -- the store from the port on, with `v` in its place afterwards
+                  module _ (room : s .place .offset + dataBytes f ≤ length store) (v : List ℕ) (ev : v ≡ slaveReadOut f frame (from (s .place .offset) store)) where
+                    pub arrive-frame : (R : Refusal) → refusing R ≡ slaveRead f frame (length (from (s .place .offset) store)) → r ≡ codeOf R → Arrived s store ages word frame r (putFrom (s .place .offset) store v) ages
+                    arrive-frame R t c =
+                        let n = read-refuses f frame (from (s .place .offset) store) R h3 (from-room (s .place .offset) (dataBytes f) store room) t in
+                        subst (λ (l : List ℕ). Arrived s store ages word frame r l ages) (sym (put-kept (s .place .offset) store v (ev ∙ n .2)))
+                        (arrive-no (numberOf R) (refusal-told r R c) (n .1) (arrive-on ∙ ap (λ (x : ℕ). frameCheck x frame) (sym ef) ∙ n .0))
 
-                  pub arrive-done : (n : ℕ) (scratch scratch' store' : List ℕ) → gives (n ∷ []) ≡ slaveRead f frame (length scratch) → scratch' ≡ slaveReadOut f frame scratch
-                      → store' ≡ replaced (s .place .offset) (take n scratch') store → r ≡ 0 → Arrived s store ages word frame r store' (set ages (s .place .at) 0)
-                  unfolding arrive arriveStore arriveAges
-                  arrive-done n scratch scratch' store' t es e0 er = λ ps e.
-                      let d = read-gives f frame n scratch t in
-                      let k : arriveRefusal ps store ages word frame ≡ 0 = arrive-shown ps e ∙ arrive-on ∙ ap (λ (x : ℕ). frameCheck x frame) (sym ef) ∙ d .0 in
-                      let z = shown s (address word) ps e g .1 in
-                      let new : take n scratch' ≡ slaveData (fCode word) frame = ap (take n) es ∙ d .1 ∙ ap (λ (x : ℕ). slaveData x frame) ef in (
-                        ap toldCode er ∙ value-told 0 (omega arith) ∙ answered-yes k (0 ∷ []),
-                        e0 ∙ ap₂ (λ (t : Seen) (l : List ℕ). replaced (t .place .offset) l store) z new ∙ changed k _ store,
-                        ap (λ (t : Seen). set ages (t .place .at) 0) z ∙ changed k _ ages,
-                      )
+                    pub arrive-done : (n : ℕ) → gives (n ∷ []) ≡ slaveRead f frame (length (from (s .place .offset) store)) → r ≡ 0 → Arrived s store ages word frame r (putFrom (s .place .offset) store v) (set ages (s .place .at) 0)
+                    unfolding arrive arriveStore arriveAges
+                    arrive-done n t er = λ ps e.
+                        let d = read-gives f frame n (from (s .place .offset) store) t in
+                        let k : arriveRefusal ps store ages word frame ≡ 0 = arrive-shown ps e ∙ arrive-on ∙ ap (λ (x : ℕ). frameCheck x frame) (sym ef) ∙ d .0 in
+                        let z = shown s (address word) ps e g .1 in (
+                          ap toldCode er ∙ value-told 0 (omega arith) ∙ answered-yes k (0 ∷ []),
+                          put-is store (slaveData f frame) v (s .place .offset) (omega (arith, d .2)) (ev ∙ d .1 ∙ front-whole (slaveData f frame) (dataBytes f) (from (s .place .offset) store) (d .2))
+                              ∙ ap₂ (λ (t : Seen) (x : ℕ). replaced (t .place .offset) (slaveData x frame) store) z ef ∙ changed k _ store,
+                          ap (λ (t : Seen). set ages (t .place .at) 0) z ∙ changed k _ ages,
+                        )
 
 -- ---- an answer
 
