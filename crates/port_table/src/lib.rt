@@ -34,11 +34,12 @@ pub struct Seen {
 pub fn look(table: &[Port], address: u16) -> Seen
     ensures { λ r. ⌜ r ≡ seenOf address (now (table .entry)) ⌝ }
 {
-    let mut seen = records::none();
+    let count = records::walked(table.len());
+    let mut walk = records::none();
     let mut i: usize = 0;
-    while i < table.len() {
-        seen = records::step(seen, table[i], address);
+    while i < count {
+        walk = records::step(walk, i, table[i], address);
         i += 1;
     }
-    seen
+    records::shown(walk, table.len())
 }
