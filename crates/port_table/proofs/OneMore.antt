@@ -1,19 +1,20 @@
 -- A table with one record more: what each definition makes of it.
 -- Assumes nothing.
 use mathlib.Core.Path.{_≡_, refl, sym, ap, ap₂, _∙_}
-use mathlib.Core.Bool.{Bool, true, false, cond, _&&_, and-eq-true-iff, and-true}
+use mathlib.Core.Bool.{Bool, true, false, cond, _&&_, and-eq-true-iff, and-true, and-false}
 use mathlib.Core.List.{List, [], _∷_, _++_}
 use Prim.Native.Nat.{ℕ, suc, _+_, _*_, _≤_, _<_}
 use native.Mathlib.Nat.{add-zero, zero-add, add-assoc}
 use native.Mathlib.Omega.{arith}
-use borrow.Author.Tests.{lt-ltb, le-leb, leb-true, ltb-true}
+use borrow.Author.Tests.{le-leb, lt-leb, leb-true, ltb-true, ltb-false, eqb-true}
 use lib.Dec.{eqb, ltb, leb}
 use lib.ListN.{length, length-append}
 use Rattle.rows.specs.Rows.{dataBytes}
 use Rattle.rows.proofs.Rows.{bits-most}
 use Rattle.port_table.specs.declared.Port.{Port}
 use Rattle.port_table.specs.Table.{rising, good, portBytes, tableBytes, before, placeOf}
-use Rattle.port_table.specs.Seen.{nextFrom, mark, marksFrom}
+use Rattle.port_table.specs.Seen.{nextFrom}
+use Rattle.port_table.specs.Inside.{climbs}
 
 -- ---- truth values
 
@@ -23,10 +24,6 @@ by-cases false f g = g refl
 
 pub not-both : {b : Bool} {X : Type 0} → b ≡ true → b ≡ false → X
 not-both t f = absurd (mathlib.Core.Bool.false≢true (sym f ∙ t))
-
--- four numbers, each by itself
-pub four : {a b c d a' b' c' d' : ℕ} → a ≡ a' → b ≡ b' → c ≡ c' → d ≡ d' → a ∷ b ∷ c ∷ d ∷ [] ≡ a' ∷ b' ∷ c' ∷ d' ∷ []
-four p q r s = ap₂ _∷_ p (ap₂ _∷_ q (ap₂ _∷_ r (ap₂ _∷_ s refl)))
 
 -- ---- sizes
 
@@ -53,57 +50,58 @@ length-more ps p = length-append ps (p ∷ [])
 
 -- ---- goodness
 
-abbrev follows : ℕ → Port → Bool
-follows low p = leb low (p .address) && (ltb (p .address) 4096 && ltb (p .«f_code») 5)
-
--- what a table's goodness says of its first record
-pub rising-split : (low : ℕ) (p : Port) (ps : List Port) → rising low (p ∷ ps) ≡ true
-    → (leb low (p .address) ≡ true) × (ltb (p .address) 4096 ≡ true) × (ltb (p .«f_code») 5 ≡ true) × (rising (p .address + 1) ps ≡ true)
-unfolding rising
-rising-split low p ps h =
-    let a = and-eq-true-iff (leb low (p .address)) _ .0 h in
-    let b = and-eq-true-iff (ltb (p .address) 4096) _ .0 (a .1) in
-    let c = and-eq-true-iff (ltb (p .«f_code») 5) _ .0 (b .1) in
-    (a .0, b .0, c .0, c .1)
-
-rising-more : (low : ℕ) (ps : List Port) (p : Port) → rising low ps ≡ true → rising low (ps ++ p ∷ []) ≡ follows (nextFrom low ps) p
-unfolding rising nextFrom
-rising-more low [] p h = ap (λ (b : Bool). leb low (p .address) && (ltb (p .address) 4096 && b)) (and-true (ltb (p .«f_code») 5))
-rising-more low (q ∷ ps) p h =
-    let s = rising-split low q ps h in
-    ap (λ (b : Bool). b && (ltb (q .address) 4096 && (ltb (q .«f_code») 5 && rising (q .address + 1) (ps ++ p ∷ [])))) (s .0)
-    ∙ ap (λ (b : Bool). b && (ltb (q .«f_code») 5 && rising (q .address + 1) (ps ++ p ∷ []))) (s .1)
-    ∙ ap (λ (b : Bool). b && rising (q .address + 1) (ps ++ p ∷ [])) (s .2)
-    ∙ rising-more (q .address + 1) ps p (s .3)
-
-rising-less : (low : ℕ) (ps : List Port) (p : Port) → rising low (ps ++ p ∷ []) ≡ true → rising low ps ≡ true
-unfolding rising
-rising-less low [] p h = refl
-rising-less low (q ∷ ps) p h =
-    let s = rising-split low q (ps ++ p ∷ []) h in
-    ap₂ _&&_ (s .0) (ap₂ _&&_ (s .1) (ap₂ _&&_ (s .2) (rising-less (q .address + 1) ps p (s .3))))
+-- four tests, with the last apart
+and-apart : (a b c d : Bool) → (a && (b && (c && d))) ≡ (a && (b && c) && d)
+and-apart true true c d = refl
+and-apart true false c d = refl
+and-apart false b c d = refl
 
 pub good-split : (ps : List Port) → good ps ≡ true → (length ps ≤ 256) × (rising 0 ps ≡ true)
 unfolding good
 good-split ps h = let s = and-eq-true-iff (leb (length ps) 256) (rising 0 ps) .0 h in (leb-true (length ps) 256 (s .0), s .1)
 
-leb-more : (n m : ℕ) → leb (n + 1) m ≡ ltb n m
-leb-more n m = by-cases (ltb n m) (λ t. le-leb (n + 1) m (omega (arith, ltb-true n m t)) ∙ sym t) (λ f. by-cases (leb (n + 1) m) (λ t. not-both (lt-ltb n m (omega (arith, leb-true (n + 1) m t))) f) (λ g. g ∙ sym f))
+-- in order with one record more
+pub climbs-more : (low : ℕ) (ps : List Port) (p : Port) → climbs low (ps ++ p ∷ []) ≡ (climbs low ps && (leb (nextFrom low ps) (p .address) && ltb (p .«f_code») 5))
+unfolding climbs nextFrom
+climbs-more low [] p = ap (λ (b : Bool). leb low (p .address) && b) (and-true (ltb (p .«f_code») 5))
+climbs-more low (q ∷ ps) p =
+    ap (λ (b : Bool). leb low (q .address) && (ltb (q .«f_code») 5 && b)) (climbs-more (q .address + 1) ps p)
+    ∙ and-apart (leb low (q .address)) (ltb (q .«f_code») 5) (climbs (q .address + 1) ps) (leb (nextFrom (q .address + 1) ps) (p .address) && ltb (p .«f_code») 5)
 
-pub good-more : (ps : List Port) (p : Port) → good ps ≡ true → (ltb (length ps) 256 && follows (nextFrom 0 ps) p) ≡ good (ps ++ p ∷ [])
+climbs-split : (low : ℕ) (p : Port) (ps : List Port) → climbs low (p ∷ ps) ≡ true → (low ≤ p .address) × (climbs (p .address + 1) ps ≡ true)
+unfolding climbs
+climbs-split low p ps h =
+    let a = and-eq-true-iff (leb low (p .address)) _ .0 h in
+    (leb-true low (p .address) (a .0), and-eq-true-iff (ltb (p .«f_code») 5) _ .0 (a .1) .1)
+
+climbs-up : (low : ℕ) (ps : List Port) → climbs low ps ≡ true → low ≤ nextFrom low ps
+unfolding nextFrom
+climbs-up low [] h = omega arith
+climbs-up low (p ∷ ps) h = let s = climbs-split low p ps h in omega (arith, s .0, climbs-up (p .address + 1) ps (s .1))
+
+-- a table is rising where its records are in order and the last address is below 4,096
+rising-is : (low : ℕ) (ps : List Port) → low ≤ 4096 → rising low ps ≡ (climbs low ps && leb (nextFrom low ps) 4096)
+unfolding rising climbs nextFrom
+rising-is low [] h = sym (le-leb low 4096 h)
+rising-is low (p ∷ ps) h = by-cases (ltb (p .address) 4096)
+    (λ t.
+    ap (λ (b : Bool). leb low (p .address) && (b && (ltb (p .«f_code») 5 && rising (p .address + 1) ps))) t
+    ∙ ap (λ (b : Bool). leb low (p .address) && (ltb (p .«f_code») 5 && b)) (rising-is (p .address + 1) ps (omega (arith, ltb-true (p .address) 4096 t)))
+    ∙ and-apart (leb low (p .address)) (ltb (p .«f_code») 5) (climbs (p .address + 1) ps) (leb (nextFrom (p .address + 1) ps) 4096))
+    (λ f.
+    ap (λ (b : Bool). leb low (p .address) && (b && (ltb (p .«f_code») 5 && rising (p .address + 1) ps))) f ∙ and-false (leb low (p .address))
+    ∙ sym (by-cases (climbs (p .address + 1) ps)
+    (λ c.
+    ap (λ (b : Bool). leb low (p .address) && (ltb (p .«f_code») 5 && climbs (p .address + 1) ps) && b) (lt-leb (nextFrom (p .address + 1) ps) 4096 (omega (arith, ltb-false (p .address) 4096 f, climbs-up (p .address + 1) ps c)))
+    ∙ and-false (leb low (p .address) && (ltb (p .«f_code») 5 && climbs (p .address + 1) ps)))
+    (λ c.
+    sym (and-apart (leb low (p .address)) (ltb (p .«f_code») 5) (climbs (p .address + 1) ps) (leb (nextFrom (p .address + 1) ps) 4096))
+    ∙ ap (λ (b : Bool). leb low (p .address) && (ltb (p .«f_code») 5 && (b && leb (nextFrom (p .address + 1) ps) 4096))) c
+    ∙ ap (λ (b : Bool). leb low (p .address) && b) (and-false (ltb (p .«f_code») 5)) ∙ and-false (leb low (p .address)))))
+
+pub good-is : (ps : List Port) → good ps ≡ (leb (length ps) 256 && (climbs 0 ps && leb (nextFrom 0 ps) 4096))
 unfolding good
-good-more ps p h =
-    ap₂ _&&_ (sym (leb-more (length ps) 256) ∙ ap (λ (n : ℕ). leb n 256) (sym (length-more ps p))) (sym (rising-more 0 ps p (good-split ps h .1)))
-
-good-whole : (ps : List Port) → length ps ≤ 256 → rising 0 ps ≡ true → good ps ≡ true
-unfolding good
-good-whole ps a b = ap₂ _&&_ (le-leb (length ps) 256 a) b
-
-pub bad-more : (ps : List Port) (p : Port) → good ps ≡ false → good (ps ++ p ∷ []) ≡ false
-bad-more ps p h = by-cases (good (ps ++ p ∷ [])) (λ t.
-    let s = good-split (ps ++ p ∷ []) t in
-    not-both (good-whole ps (omega (arith, s .0, length-more ps p)) (rising-less 0 ps p (s .1))) h)
-    (λ f. f)
+good-is ps = ap (λ (b : Bool). leb (length ps) 256 && b) (rising-is 0 ps (omega arith))
 
 -- ---- what the walk carries
 
@@ -111,11 +109,6 @@ pub next-more : (low : ℕ) (ps : List Port) (p : Port) → nextFrom low (ps ++ 
 unfolding nextFrom
 next-more low [] p = refl
 next-more low (q ∷ ps) p = next-more (q .address + 1) ps p
-
-pub marks-more : (m : List ℕ) (ps : List Port) (p : Port) → marksFrom m (ps ++ p ∷ []) ≡ mark (marksFrom m ps) (p .sink)
-unfolding marksFrom
-marks-more m [] p = refl
-marks-more m (q ∷ ps) p = marks-more (mark m (q .sink)) ps p
 
 -- ---- the place of a port
 
@@ -143,3 +136,14 @@ before-missed a (p ∷ ps) qs h = by-cases (eqb (p .address) a)
     (λ t. let z : length (cond (eqb (p .address) a) [] (p ∷ before a ps)) ≡ 0 = simp t in absurd (omega arith))
     (λ f. let z : length (cond (eqb (p .address) a) [] (p ∷ before a ps)) ≡ suc (placeOf a ps) = simp f in
     ap (λ (b : Bool). cond b [] (p ∷ before a (ps ++ qs))) f ∙ ap (λ (l : List Port). p ∷ l) (before-missed a ps qs (omega arith)))
+
+-- a port of records in order has an address below the next one's
+pub listed-below : (low a : ℕ) (ps : List Port) → climbs low ps ≡ true → placeOf a ps < length ps → a < nextFrom low ps
+unfolding nextFrom before
+listed-below low a [] c h = absurd (omega arith)
+listed-below low a (p ∷ ps) c h =
+    let s = climbs-split low p ps c in
+    by-cases (eqb (p .address) a)
+    (λ t. omega (arith, eqb-true (p .address) a t, climbs-up (p .address + 1) ps (s .1)))
+    (λ f. let z : length (cond (eqb (p .address) a) [] (p ∷ before a ps)) ≡ suc (placeOf a ps) = simp f in
+    listed-below (p .address + 1) a ps (s .1) (omega arith))

@@ -1,21 +1,22 @@
--- The walk's step, way out by way out: from what one table shows to what it shows with one record more.
+-- The walk, way out by way out: from what it keeps of some records to what it keeps of one more, and what it shows.
 -- Assumes nothing.
 use mathlib.Core.Path.{_≡_, refl, sym, ap, ap₂, _∙_, subst}
-use mathlib.Core.Bool.{Bool, true, false, not, cond, and-eq-true-iff}
+use mathlib.Core.Bool.{Bool, true, false, not, cond, _&&_, and-eq-true-iff, and-false}
 use mathlib.Core.List.{List, [], _∷_, _++_, append-nil}
 use Prim.Native.Nat.{ℕ, _+_, _*_, _≤_, _<_}
 use native.Mathlib.Omega.{arith}
-use borrow.Author.Tests.{eq-eqb, ne-eqb, lt-ltb, le-ltb, le-leb, leb-true, ltb-true, ltb-false, eqb-true, not-true, not-false}
+use borrow.Author.Tests.{eq-eqb, ne-eqb, lt-ltb, le-ltb, le-leb, lt-leb, leb-true, ltb-true, ltb-false, eqb-true, not-true, not-false}
 use lib.Dec.{eqb, ltb, leb}
 use lib.ListN.{length, getD, List·getD-append, List·getD-eq-default}
 use lib.Seq.{getD-append-seam}
 use Rattle.port_table.specs.declared.Port.{Port}
 use Rattle.port_table.specs.declared.Place.{Place}
 use Rattle.port_table.specs.declared.Seen.{Seen}
-use Rattle.port_table.specs.Table.{rising, good, portBytes, tableBytes, before, placeOf, noPort}
-use Rattle.port_table.specs.Seen.{nextFrom, mark, marksFrom, noMarks, emptySeen, goodSeen, seenOf}
-use Rattle.port_table.specs.Inside.{Walked, fits, placeAfter}
-use Rattle.port_table.proofs.OneMore.{by-cases, not-both, bytes-most, bytes-more, length-more, good-more, bad-more, next-more, marks-more, before-found, before-missed}
+use Rattle.port_table.specs.declared.records.Walk.{Walk}
+use Rattle.port_table.specs.Table.{good, portBytes, tableBytes, before, placeOf, noPort}
+use Rattle.port_table.specs.Seen.{nextFrom, emptySeen, goodSeen, seenOf}
+use Rattle.port_table.specs.Inside.{noWalk, walkedOf, climbs, follow, placeIn, shownBy, Keeps, Shows}
+use Rattle.port_table.proofs.OneMore.{by-cases, not-both, bytes-more, length-more, good-is, climbs-more, next-more, before-found, before-missed, listed-below}
 
 -- ---- what a walk shows
 
@@ -34,63 +35,24 @@ shows-good s a ps e = by-cases (good ps) (λ t. ap (λ (z : Seen). z .good) (e �
 pub shown : (s : Seen) (a : ℕ) (ps : List Port) → s ≡ seenOf a ps → not (s .good) ≡ false → (good ps ≡ true) × (s ≡ goodSeen a ps)
 shown s a ps e g = let t : good ps ≡ true = sym (shows-good s a ps e) ∙ not-false (s .good) g in (t, e ∙ seen-good a ps t)
 
-pub shown-not : (s : Seen) (a : ℕ) (ps : List Port) → s ≡ seenOf a ps → not (s .good) ≡ true → good ps ≡ false
-shown-not s a ps e g = sym (shows-good s a ps e) ∙ not-true (s .good) g
-
--- no record shows what any address finds in a table without one
-pub none-shown : (a : ℕ) → emptySeen true ≡ seenOf a []
-unfolding seenOf good rising nextFrom tableBytes before marksFrom
-none-shown a = refl
-
--- sizes of what was shown
-pub walked-small : (s : Seen) (a : ℕ) → Walked s a → s .bytes ≤ 32 * s .count
-walked-small s a (ps, e) = by-cases (good ps)
-    (λ t. subst (λ (z : Seen). z .bytes ≤ 32 * z .count) (sym (e ∙ seen-good a ps t)) (bytes-most ps))
-    (λ f. subst (λ (z : Seen). z .bytes ≤ 32 * z .count) (sym (e ∙ seen-bad a ps f)) (omega arith))
-
--- ---- what the tests of a record show
-
-pub record Fits (s : Seen) (p : Port) : Type 0 where
-  pub count : s .count < 256
-  pub low : s .next ≤ p .address
-  pub high : p .address < 4096
-  pub code : p .«f_code» < 5
-
-pub fits-is : (s : Seen) (p : Port) → fits s p ≡ true → Fits s p
-fits-is s p h =
-    let a = and-eq-true-iff (ltb (s .count) 256) _ .0 h in
-    let b = and-eq-true-iff (leb (s .next) (p .address)) _ .0 (a .1) in
-    let c = and-eq-true-iff (ltb (p .address) 4096) _ .0 (b .1) in
-    record { count = ltb-true _ _ (a .0); low = leb-true _ _ (b .0); high = ltb-true _ _ (c .0); code = ltb-true _ _ (c .1) }
-
-module _ (s : Seen) (p : Port) where
-  pub fits-many : 256 ≤ s .count → false ≡ fits s p
-  fits-many h = simp (le-ltb (s .count) 256 h)
-
-  module _ (a : s .count < 256) where
-    pub fits-low : p .address < s .next → false ≡ fits s p
-    fits-low h = simp (lt-ltb (s .count) 256 a, lt-leb' (s .next) (p .address) h)
-      where
-        lt-leb' : (m n : ℕ) → n < m → leb m n ≡ false
-        lt-leb' m n h = by-cases (leb m n) (λ t. absurd (omega (arith, leb-true m n t))) (λ f. f)
-
-    pub fits-high : s .next ≤ p .address → 4096 ≤ p .address → false ≡ fits s p
-    fits-high b h = simp (lt-ltb (s .count) 256 a, le-leb (s .next) (p .address) b, le-ltb (p .address) 4096 h)
-
-    pub fits-last : s .next ≤ p .address → p .address < 4096 → ltb (p .«f_code») 5 ≡ fits s p
-    fits-last b c = simp (lt-ltb (s .count) 256 a, le-leb (s .next) (p .address) b, lt-ltb (p .address) 4096 c)
-
 -- ---- the place of the port
 
+-- after one record more, of so many bytes
+abbrev placeAfter : Seen → Port → ℕ → ℕ → Place
+placeAfter s p size a =
+    cond (ltb (s .place .at) (s .count)) (s .place)
+    (cond (eqb (p .address) a) (record { at = s .count; offset = s .bytes; «f_code» = p .«f_code»; sink = p .sink })
+    (record { at = s .count + 1; offset = s .bytes + size; «f_code» = 0; sink = 0 }))
+
 module _ (s : Seen) (p : Port) (size a : ℕ) where
-  pub place-kept : s .place .at < s .count → s .place ≡ placeAfter s p size a
+  place-kept : s .place .at < s .count → s .place ≡ placeAfter s p size a
   place-kept h = simp (lt-ltb (s .place .at) (s .count) h)
 
   module _ (h : s .count ≤ s .place .at) where
-    pub place-here : p .address ≡ a → _≡_ {A = Place} (record { at = s .count; offset = s .bytes; «f_code» = p .«f_code»; sink = p .sink }) (placeAfter s p size a)
+    place-here : p .address ≡ a → _≡_ {A = Place} (record { at = s .count; offset = s .bytes; «f_code» = p .«f_code»; sink = p .sink }) (placeAfter s p size a)
     place-here e = simp (le-ltb (s .place .at) (s .count) h, eq-eqb (p .address) a e)
 
-    pub place-on : (p .address ≡ a → ⊥) → _≡_ {A = Place} (record { at = s .count + 1; offset = s .bytes + size; «f_code» = 0; sink = 0 }) (placeAfter s p size a)
+    place-on : (p .address ≡ a → ⊥) → _≡_ {A = Place} (record { at = s .count + 1; offset = s .bytes + size; «f_code» = 0; sink = 0 }) (placeAfter s p size a)
     place-on e = simp (le-ltb (s .place .at) (s .count) h, ne-eqb (p .address) a e)
 
 -- the place of a port whose records before it, and whose own record, are known
@@ -123,34 +85,118 @@ place-more a ps p = by-cases (ltb (placeOf a ps) (length ps)) found (λ m. by-ca
         ∙ ap₂ (λ (n k : ℕ). record { at = n; offset = k; «f_code» = 0; sink = 0 }) (sym (length-more ps p)) (sym (bytes-more ps p))
         ∙ ap₂ placeAt (sym b) (sym none)
 
--- ---- the step
+-- ---- the walk
 
-module _ (s : Seen) (p : Port) (a : ℕ) (ps : List Port) (e : s ≡ seenOf a ps) where
-  pub stays-bad : not (s .good) ≡ true → s ≡ seenOf a (ps ++ p ∷ [])
-  stays-bad g = let f = shown-not s a ps e g in e ∙ seen-bad a ps f ∙ sym (seen-bad a (ps ++ p ∷ []) (bad-more ps p f))
+-- at most all records are walked, at most 256, and all where they are not more
+pub walked-is : (n : ℕ) → (walkedOf n ≤ n) × (walkedOf n ≤ 256) × (n ≤ 256 → walkedOf n ≡ n)
+walked-is n = by-cases (ltb 256 n)
+    (λ t. let z : walkedOf n ≡ 0 = ap (λ (b : Bool). cond b 0 n) t in (omega arith, omega arith, λ h. absurd (omega (arith, ltb-true 256 n t))))
+    (λ f. let z : walkedOf n ≡ n = ap (λ (b : Bool). cond b 0 n) f in (omega arith, omega (arith, ltb-false 256 n f), λ h. z))
 
-  module _ (g : not (s .good) ≡ false) where
-    after : fits s p ≡ good (ps ++ p ∷ [])
-    after = let k = shown s a ps e g in ap (λ (z : Seen). fits z p) (k .1) ∙ good-more ps p (k .0)
+pub none-walks : (a : ℕ) → Keeps noWalk a []
+unfolding climbs nextFrom tableBytes before
+none-walks a = record { climbing = refl; above = refl; small = omega arith; earlier = λ t. not-both t refl; shows = λ t. refl }
 
-    pub turns-bad : not (fits s p) ≡ true → emptySeen false ≡ seenOf a (ps ++ p ∷ [])
-    turns-bad f = sym (seen-bad a (ps ++ p ∷ []) (sym after ∙ not-true (fits s p) f))
+-- one record more
+module _ (w : Walk) (a : ℕ) (ps : List Port) (k : Keeps w a ps) (p : Port) (good : Bool) (eg : good ≡ follow w p) (size : ℕ) (es : p .«f_code» < 5 → size ≡ portBytes p) (few : size ≤ 32) where
+  still : good ≡ climbs 0 (ps ++ p ∷ [])
+  still = eg ∙ ap₂ (λ (b : Bool) (n : ℕ). b && (leb n (p .address) && ltb (p .«f_code») 5)) (k .climbing) (k .above) ∙ sym (climbs-more 0 ps p)
 
-    pub goes-on : not (fits s p) ≡ false → (size : ℕ) (place : Place) (marks : List ℕ) → size ≡ portBytes p → place ≡ placeAfter s p size a → marks ≡ mark (s .marks) (p .sink)
-        → _≡_ {A = Seen} (record { good = true; next = p .address + 1; count = s .count + 1; bytes = s .bytes + size; place = place; marks = marks }) (seenOf a (ps ++ p ∷ []))
-    goes-on f size place marks h k m =
-        let z : s ≡ goodSeen a ps = shown s a ps e g .1 in
-        λ i. sum z h k m (not-false (fits s p) f) i
-      where
-        sum : s ≡ goodSeen a ps → size ≡ portBytes p → place ≡ placeAfter s p size a → marks ≡ mark (s .marks) (p .sink) → fits s p ≡ true
-            → _≡_ {A = Seen} (record { good = true; next = p .address + 1; count = s .count + 1; bytes = s .bytes + size; place = place; marks = marks }) (seenOf a (ps ++ p ∷ []))
-        sum z h k m f =
-            (λ i. record {
-              good = true;
-              next = sym (next-more 0 ps p) i;
-              count = (ap (λ (t : Seen). t .count + 1) z ∙ sym (length-more ps p)) i;
-              bytes = (ap₂ (λ (t : Seen) (n : ℕ). t .bytes + n) z h ∙ sym (bytes-more ps p)) i;
-              place = (k ∙ ap₂ (λ (t : Seen) (n : ℕ). placeAfter t p n a) z h ∙ place-more a ps p) i;
-              marks = (m ∙ ap (λ (t : Seen). mark (t .marks) (p .sink)) z ∙ sym (marks-more noMarks ps p)) i;
-            })
-            ∙ sym (seen-good a (ps ++ p ∷ []) (sym after ∙ f))
+  more-bytes : w .bytes + size ≤ 32 * length (ps ++ p ∷ [])
+  more-bytes = omega (arith, k .small, few, length-more ps p)
+
+  -- what records in order say of the last
+  module _ (t : climbs 0 (ps ++ p ∷ []) ≡ true) where
+    was : (climbs 0 ps ≡ true) × (nextFrom 0 ps ≤ p .address) × (p .«f_code» < 5)
+    was =
+        let s = and-eq-true-iff (climbs 0 ps) _ .0 (sym (climbs-more 0 ps p) ∙ t) in
+        let u = and-eq-true-iff (leb (nextFrom 0 ps) (p .address)) _ .0 (s .1) in
+        (s .0, leb-true _ _ (u .0), ltb-true _ _ (u .1))
+
+    showed : shownBy w (length ps) ≡ goodSeen a ps
+    showed = k .shows (was .0)
+
+    sized : size ≡ portBytes p
+    sized = es (was .2)
+
+    -- all but the place
+    shows-more : (place : Place) → place ≡ placeAfter (goodSeen a ps) p (portBytes p) a
+        → _≡_ {A = Seen} (record { good = true; next = p .address + 1; count = length (ps ++ p ∷ []); bytes = w .bytes + size; place = place }) (goodSeen a (ps ++ p ∷ []))
+    shows-more place e =
+        λ i. record {
+          good = true;
+          next = sym (next-more 0 ps p) i;
+          count = length (ps ++ p ∷ []);
+          bytes = (ap₂ (λ (s : Seen) (n : ℕ). s .bytes + n) showed sized ∙ sym (bytes-more ps p)) i;
+          place = (e ∙ place-more a ps p) i;
+        }
+
+    -- no address twice
+    first : p .address ≡ a → length ps ≤ placeOf a ps
+    first h = by-cases (ltb (placeOf a ps) (length ps))
+        (λ b. absurd (omega (arith, listed-below 0 a ps (was .0) (ltb-true (placeOf a ps) (length ps) b), was .1)))
+        (λ b. ltb-false (placeOf a ps) (length ps) b)
+
+    place-found : p .address ≡ a → _≡_ {A = Place} (record { at = length ps; offset = w .bytes; «f_code» = p .«f_code»; sink = p .sink }) (placeAfter (goodSeen a ps) p (portBytes p) a)
+    place-found h =
+        ap (λ (s : Seen). record { at = length ps; offset = s .bytes; «f_code» = p .«f_code»; sink = p .sink }) showed ∙ place-here (goodSeen a ps) p (portBytes p) a (first h) h
+
+    abbrev kept : Place
+    kept = record { at = w .at; offset = w .offset; «f_code» = w .«f_code»; sink = w .sink }
+
+    abbrev behind : ℕ → ℕ → Place
+    behind n o = record { at = n; offset = o; «f_code» = 0; sink = 0 }
+
+    place-stays : (p .address ≡ a → ⊥) → cond (w .found) kept (behind (length (ps ++ p ∷ [])) (w .bytes + size)) ≡ placeAfter (goodSeen a ps) p (portBytes p) a
+    place-stays h = by-cases (w .found)
+        (λ b.
+        let z : kept ≡ goodSeen a ps .place = sym (ap (λ (f : Bool). cond f kept (behind (length ps) (w .bytes))) b) ∙ ap (λ (s : Seen). s .place) showed in
+        ap (λ (f : Bool). cond f kept (behind (length (ps ++ p ∷ [])) (w .bytes + size))) b ∙ z ∙ place-kept (goodSeen a ps) p (portBytes p) a (omega (arith, k .earlier b, ap (λ (l : Place). l .at) z)))
+        (λ b.
+        let z : length ps ≡ placeOf a ps = ap (λ (f : Bool). (cond f kept (behind (length ps) (w .bytes))) .at) (sym b) ∙ ap (λ (s : Seen). s .place .at) showed in
+        ap (λ (f : Bool). cond f kept (behind (length (ps ++ p ∷ [])) (w .bytes + size))) b
+        ∙ ap₂ behind (length-more ps p) (ap₂ (λ (s : Seen) (n : ℕ). s .bytes + n) showed sized)
+        ∙ place-on (goodSeen a ps) p (portBytes p) a (omega (arith, z)) h)
+
+  pub walks-found : (i : ℕ) → length ps ≡ i → p .address ≡ a
+      → Keeps (record { good = good; found = true; «f_code» = p .«f_code»; sink = p .sink; next = p .address + 1; bytes = w .bytes + size; at = i; offset = w .bytes }) a (ps ++ p ∷ [])
+  walks-found i l h = record {
+    climbing = still;
+    above = sym (next-more 0 ps p);
+    small = more-bytes;
+    earlier = λ _. omega (arith, length-more ps p);
+    shows = λ t. shows-more t _ (ap (λ (n : ℕ). record { at = n; offset = w .bytes; «f_code» = p .«f_code»; sink = p .sink }) (sym l) ∙ place-found t h);
+  }
+
+  pub walks-on : (p .address ≡ a → ⊥)
+      → Keeps (record { good = good; found = w .found; «f_code» = w .«f_code»; sink = w .sink; next = p .address + 1; bytes = w .bytes + size; at = w .at; offset = w .offset }) a (ps ++ p ∷ [])
+  walks-on h = record {
+    climbing = still;
+    above = sym (next-more 0 ps p);
+    small = more-bytes;
+    earlier = λ b. omega (arith, k .earlier b, length-more ps p);
+    shows = λ t. shows-more t _ (place-stays t h);
+  }
+
+-- ---- what it shows
+
+module _ (w : Walk) (n : ℕ) where
+  pub shown-many : 256 < n → Shows w n (emptySeen false)
+  shown-many h = λ a ps l k. sym (seen-bad a ps (good-is ps ∙ ap (λ (b : Bool). b && (climbs 0 ps && leb (nextFrom 0 ps) 4096)) (lt-leb (length ps) 256 (omega arith))))
+
+  module _ (few : n ≤ 256) where
+    pub shown-unordered : not (w .good) ≡ true → Shows w n (emptySeen false)
+    shown-unordered g = λ a ps l k.
+        sym (seen-bad a ps (good-is ps ∙ ap (λ (b : Bool). leb (length ps) 256 && (b && leb (nextFrom 0 ps) 4096)) (sym (k few .climbing) ∙ not-true (w .good) g) ∙ and-false (leb (length ps) 256)))
+
+    module _ (g : not (w .good) ≡ false) where
+      pub shown-high : 4096 < w .next → Shows w n (emptySeen false)
+      shown-high h = λ a ps l k.
+          sym (seen-bad a ps (good-is ps ∙ ap (λ (b : Bool). leb (length ps) 256 && (climbs 0 ps && b)) (lt-leb (nextFrom 0 ps) 4096 (omega (arith, k few .above)))
+          ∙ ap (λ (b : Bool). leb (length ps) 256 && b) (and-false (climbs 0 ps)) ∙ and-false (leb (length ps) 256)))
+
+      pub shown-good : w .next ≤ 4096 → (place : Place) → place ≡ placeIn w n → Shows w n (record { good = true; next = w .next; count = n; bytes = w .bytes; place = place })
+      shown-good h place e = λ a ps l k.
+          let c : climbs 0 ps ≡ true = sym (k few .climbing) ∙ not-false (w .good) g in
+          let t : good ps ≡ true = good-is ps ∙ ap₂ (λ (x y : Bool). x && (climbs 0 ps && y)) (le-leb (length ps) 256 (omega arith)) (le-leb (nextFrom 0 ps) 4096 (omega (arith, k few .above))) ∙ ap (λ (b : Bool). b && true) c in
+          ap (λ (x : Place). record { good = true; next = w .next; count = n; bytes = w .bytes; place = x }) e ∙ ap (shownBy w) (sym l) ∙ k few .shows c ∙ sym (seen-good a ps t)

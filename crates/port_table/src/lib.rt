@@ -21,25 +21,25 @@ pub struct Place {
 }
 
 // What a walk of the table shows: `next` is one more than the last address, `place.at` is `count` where no record has
-// the address, and `marks` holds a bit for each record, 1 for a sink. Of a table that is not good all else is 0.
+// the address. Of a table that is not good all else is 0.
 pub struct Seen {
     pub good: bool,
     pub next: u16,
     pub count: usize,
     pub bytes: usize,
     pub place: Place,
-    pub marks: [u64; 4],
 }
 
 // Goodness test and lookup in one walk.
 pub fn look(table: &[Port], address: u16) -> Seen
     ensures { λ r. ⌜ r ≡ seenOf address (now (table .entry)) ⌝ }
 {
-    let mut seen = records::none();
+    let count = records::walked(table.len());
+    let mut walk = records::none();
     let mut i: usize = 0;
-    while i < table.len() {
-        seen = records::step(seen, table[i], address);
+    while i < count {
+        walk = records::step(walk, i, table[i], address);
         i += 1;
     }
-    seen
+    records::shown(walk, table.len())
 }

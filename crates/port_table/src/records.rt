@@ -1,29 +1,115 @@
-// One record of the port table after another: what is known then.
+// One record of the port table after another: what is known then, and what that shows.
 use crate::Place;
 use crate::Port;
 use crate::Seen;
 ghost use mathlib.Core.Path.{_≡_};
-ghost use mathlib.Core.Bool.{true};
-ghost use Prim.Native.Nat.{_+_, _*_, _/_, _%_, _^_, _<_};
+ghost use mathlib.Core.Bool.{false};
+ghost use Prim.Native.Nat.{_<_, _≤_};
 ghost use Rattle.rows.specs.Rows.{dataBytes};
-ghost use Rattle.port_table.specs.Seen.{emptySeen, markOf, mark};
-ghost use Rattle.port_table.specs.Inside.{fits, placeAfter, Walked, WalkedOn};
+ghost use Rattle.port_table.specs.Seen.{emptySeen};
+ghost use Rattle.port_table.specs.Inside.{noWalk, walkedOf, follow, placeIn, OnWalk, WalkedOn, Shows};
 
-// The highest bit of 64.
-const TOP: u64 = 9223372036854775808;
-
-// A table without records is good.
-pub(crate) fn none() -> Seen
-    ensures { λ r. ⌜ r ≡ emptySeen true ⌝ }
-{
-    empty(true)
+// What the walk keeps: whether the records so far are in order, one more than their last address, their bytes, and
+// whether one has the address, with its place, offset, F_code and direction.
+pub(crate) struct Walk {
+    good: bool,
+    found: bool,
+    f_code: u8,
+    sink: u8,
+    next: u32,
+    bytes: usize,
+    at: usize,
+    offset: usize,
 }
 
-fn empty(good: bool) -> Seen
-    ensures { λ r. ⌜ r ≡ emptySeen good ⌝ }
+// Before the first record.
+pub(crate) fn none() -> Walk
+    ensures { λ r. ⌜ r ≡ noWalk ⌝ }
+{
+    Walk {
+        good: true,
+        found: false,
+        f_code: 0,
+        sink: 0,
+        next: 0,
+        bytes: 0,
+        at: 0,
+        offset: 0,
+    }
+}
+
+// How many of so many records are walked: none of too many.
+pub(crate) fn walked(records: usize) -> usize
+    ensures { λ r. ⌜ r ≡ walkedOf records ⌝ }
+{
+    if 256 < records { 0 } else { records }
+}
+
+// The data of a Process Data port, as the table of rows has it, without a copy of the table for each record.
+fn data_bytes(f_code: u8) -> usize
+    ensures { λ r. ⌜ («f_code» < 5 → r ≡ dataBytes «f_code») × (r ≤ 32) ⌝ }
+{
+    match f_code {
+        0 => 2,
+        1 => 4,
+        2 => 8,
+        3 => 16,
+        4 => 32,
+        _ => 0,
+    }
+}
+
+// Whether the records are in order with the next one.
+fn follows(walk: Walk, port: Port) -> bool
+    ensures { λ r. ⌜ r ≡ follow walk port ⌝ }
+{
+    let good = walk.good;
+    if !good {
+        return false;
+    }
+    if (port.address as u32) < walk.next {
+        return false;
+    }
+    port.f_code < 5
+}
+
+// One record more. Its address and the wanted one are compared first: mostly they differ.
+pub(crate) fn step(walk: Walk, i: usize, port: Port, address: u16) -> Walk
+    requires { ⌜ OnWalk walk i address ⌝ }
+    ensures { λ r. ⌜ WalkedOn walk i port address r ⌝ }
+{
+    let good = follows(walk, port);
+    let next = port.address as u32 + 1;
+    let bytes = walk.bytes + data_bytes(port.f_code);
+    if port.address == address {
+        return Walk {
+            good,
+            found: true,
+            f_code: port.f_code,
+            sink: port.sink,
+            next,
+            bytes,
+            at: i,
+            offset: walk.bytes,
+        };
+    }
+    Walk {
+        good,
+        found: walk.found,
+        f_code: walk.f_code,
+        sink: walk.sink,
+        next,
+        bytes,
+        at: walk.at,
+        offset: walk.offset,
+    }
+}
+
+fn not_good() -> Seen
+    ensures { λ r. ⌜ r ≡ emptySeen false ⌝ }
 {
     Seen {
-        good,
+        good: false,
         next: 0,
         count: 0,
         bytes: 0,
@@ -33,114 +119,50 @@ fn empty(good: bool) -> Seen
             f_code: 0,
             sink: 0,
         },
-        marks: [0; 4],
     }
 }
 
-// Whether a table stays good with the record.
-fn follows(seen: Seen, port: Port) -> bool
-    ensures { λ r. ⌜ r ≡ fits seen port ⌝ }
+// Where no record has the address, the place behind the last.
+fn place_in(walk: Walk, count: usize) -> Place
+    ensures { λ r. ⌜ r ≡ placeIn walk count ⌝ }
 {
-    if 256 <= seen.count {
-        return false;
-    }
-    if port.address < seen.next {
-        return false;
-    }
-    if 4096 <= port.address {
-        return false;
-    }
-    port.f_code < 5
-}
-
-// The data of a Process Data port, as the table of rows has it, without a copy of the table for each record.
-fn data_bytes(f_code: u8) -> usize
-    requires { ⌜ «f_code» < 5 ⌝ }
-    ensures { λ r. ⌜ r ≡ dataBytes «f_code» ⌝ }
-{
-    match f_code {
-        0 => 2,
-        1 => 4,
-        2 => 8,
-        3 => 16,
-        _ => 32,
-    }
-}
-
-// The place of the port with the address after one record more, of so many bytes.
-fn place_after(seen: Seen, port: Port, size: usize, address: u16) -> Place
-    requires { ⌜ (seen .count < 256) × (seen .bytes + size < 65536) ⌝ }
-    ensures { λ r. ⌜ r ≡ placeAfter seen port size address ⌝ }
-{
-    let place = seen.place;
-    if place.at < seen.count {
-        return place;
-    }
-    if port.address == address {
+    let found = walk.found;
+    if found {
         return Place {
-            at: seen.count,
-            offset: seen.bytes,
-            f_code: port.f_code,
-            sink: port.sink,
+            at: walk.at,
+            offset: walk.offset,
+            f_code: walk.f_code,
+            sink: walk.sink,
         };
     }
     Place {
-        at: seen.count + 1,
-        offset: seen.bytes + size,
+        at: count,
+        offset: walk.bytes,
         f_code: 0,
         sink: 0,
     }
 }
 
-fn lowest(part: u64, sink: u8) -> u64
-    ensures { λ r. ⌜ r ≡ part % 2 ^ 63 * 2 + markOf sink ⌝ }
+// What the walk of so many records shows. Addresses that rise are all below 4,096 where the last is.
+pub(crate) fn shown(walk: Walk, count: usize) -> Seen
+    ensures { λ r. ⌜ Shows walk count r ⌝ }
 {
-    if sink == 0 {
-        part % TOP * 2
-    } else {
-        part % TOP * 2 + 1
+    if 256 < count {
+        return not_good();
     }
-}
-
-fn up(part: u64, below: u64) -> u64
-    ensures { λ r. ⌜ r ≡ part % 2 ^ 63 * 2 + below / 2 ^ 63 ⌝ }
-{
-    part % TOP * 2 + below / TOP
-}
-
-// One mark more, in the lowest of the 256 bits.
-fn marked(marks: [u64; 4], sink: u8) -> [u64; 4]
-    ensures { λ r. ⌜ r ≡ mark marks sink ⌝ }
-{
-    let a = lowest(marks[0], sink);
-    let b = up(marks[1], marks[0]);
-    let c = up(marks[2], marks[1]);
-    let d = up(marks[3], marks[2]);
-    [a, b, c, d]
-}
-
-// What a walk shows after one record more.
-pub(crate) fn step(seen: Seen, port: Port, address: u16) -> Seen
-    requires { ⌜ Walked seen address ⌝ }
-    ensures { λ r. ⌜ WalkedOn seen port address r ⌝ }
-{
-    let good = seen.good;
+    let good = walk.good;
     if !good {
-        return seen;
+        return not_good();
     }
-    if !follows(seen, port) {
-        return empty(false);
+    if 4096 < walk.next {
+        return not_good();
     }
-    let size = data_bytes(port.f_code);
-    let place = place_after(seen, port, size, address);
-    let before = seen.marks;
-    let marks = marked(before, port.sink);
+    let place = place_in(walk, count);
     Seen {
         good: true,
-        next: port.address + 1,
-        count: seen.count + 1,
-        bytes: seen.bytes + size,
-        place: place,
-        marks: marks,
+        next: walk.next as u16,
+        count,
+        bytes: walk.bytes,
+        place,
     }
 }

@@ -15,6 +15,7 @@ use Rattle.port_table.specs.Table.{good, noPort, portBytes, placeOf, portOf, is
 use Rattle.ports.specs.Arriving.{arriveRefusal, arrive, arriveStore, arriveAges}
 use Rattle.ports.specs.Reading.{readRefusal, read, readOut, readAge}
 use Rattle.ports.specs.Ticking.{older, aged, tickRefusal, tickAges}
+use Rattle.ports.proofs.Ageing.{aged-length}
 use Rattle.ports.proofs.Outcomes.{accepted, either-way, without, readable, arrivable}
 use Rattle.ports.proofs.OwnPortOnly.{store-length, ages-length, own-data, own-age}
 
@@ -24,12 +25,6 @@ afterTicks zero ps ages = ages
 afterTicks (suc n) ps ages = tickAges ps (afterTicks n ps ages)
 
 -- ---- one tick
-
-aged-length : (ps : List Port) (ages : List ℕ) → length (aged ps ages) ≡ length ages
-unfolding aged
-aged-length [] ages = refl
-aged-length (p ∷ ps) [] = refl
-aged-length (p ∷ ps) (age ∷ ages) = ap suc (aged-length ps ages)
 
 aged-source : (ps : List Port) (ages : List ℕ) (i : ℕ) → isSink (getD ps i noPort) ≡ false → getD (aged ps ages) i 0 ≡ getD ages i 0
 unfolding aged

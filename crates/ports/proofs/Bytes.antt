@@ -4,7 +4,7 @@ use mathlib.Core.Path.{_≡_, refl, sym, ap, ap₂, _∙_, subst}
 use mathlib.Core.List.{List, _++_, append-nil}
 use Prim.Native.Nat.{ℕ, _+_, _-_, _≤_, _<_}
 use native.Mathlib.Omega.{arith}
-use borrow.Rule.Slice.PartMut.{putMid}
+use borrow.Rule.Slice.PartMut.{putMid, put-same}
 use mathlib.Core.Bool.{not, false}
 use lib.ListN.{length, length-append, getD, take, drop, length-drop, drop-of-length-le, List·getD-append}
 use lib.Seq.{take-all, take-length, take-at, drop-at, drop-drop, length-take-le, getD-take, getD-drop, getD-append-add}
@@ -23,8 +23,27 @@ front src out = take (length src) src ++ drop (length src) out
 pub front-is : (k n : ℕ) (l out : List ℕ) → length (take k l) ≡ n → k ≡ n → front (take k l) out ≡ take n l ++ drop n out
 front-is k n l out e h = ap₂ _++_ (take-length (take k l) ∙ ap (λ (i : ℕ). take i l) h) (ap (λ (i : ℕ). drop i out) e)
 
--- what a copy to the part of the store from a place on leaves, with `v` that part afterwards
-pub put-is : (store new v : List ℕ) (o : ℕ) → o + length new ≤ length store → v ≡ front new (take (length store - o) (drop o store)) → putMid o (length store - o) store v ≡ replaced o new store
+-- and the same, where so many bytes are all of the source
+pub front-whole : (src : List ℕ) (n : ℕ) (out : List ℕ) → length src ≡ n → src ++ drop n out ≡ front src out
+front-whole src n out e = ap₂ _++_ (sym (take-length src)) (ap (λ (i : ℕ). drop i out) (sym e))
+
+-- the part of the store from a place on, and the store with another in its place
+abbrev pub from : ℕ → List ℕ → List ℕ
+from o store = take (length store - o) (drop o store)
+
+abbrev pub putFrom : ℕ → List ℕ → List ℕ → List ℕ
+putFrom o store v = putMid o (length store - o) store v
+
+pub from-room : (o n : ℕ) (store : List ℕ) → o + n ≤ length store → n ≤ length (from o store)
+from-room o n store h =
+    let d : length (drop o store) ≡ length store - o = length-drop o store in
+    omega (arith, length-take-le (length store - o) (drop o store) (omega arith))
+
+pub put-kept : (o : ℕ) (store v : List ℕ) → v ≡ from o store → putFrom o store v ≡ store
+put-kept o store v e = ap (putFrom o store) e ∙ put-same o (length store - o) store
+
+-- what a copy to that part leaves, with `v` the part afterwards
+pub put-is : (store new v : List ℕ) (o : ℕ) → o + length new ≤ length store → v ≡ front new (from o store) → putFrom o store v ≡ replaced o new store
 unfolding replaced
 put-is store new v o h e =
     ap (λ (z : List ℕ). take o store ++ z)

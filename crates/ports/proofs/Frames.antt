@@ -8,8 +8,9 @@ use native.Mathlib.Nat.{suc-mul}
 use native.Mathlib.Omega.{arith}
 use borrow.Author.Tests.{eq-eqb, le-ltb}
 use lib.Dec.{eqb, ltb}
+use denote.Enum.Declared.{tagOf}
 use lib.ListN.{length, take, drop, length-append, length-drop}
-use lib.Seq.{take-at, length-take-le}
+use lib.Seq.{length-take-le}
 use Rattle.refusals.specs.Told.{Told, gives, refusal, refusing}
 use Rattle.refusals.specs.declared.Refusal.{Refusal}
 use Rattle.refusals.specs.Refusals.{numberOf}
@@ -17,13 +18,13 @@ use Rattle.refusals.proofs.Apart.{never-both}
 use Rattle.frames.specs.declared.Wrote.{Wrote}
 use Rattle.frames.specs.declared.Wrote.the-variants as Wrote'
 use Rattle.frames.specs.Answers.{toldWrote}
+use Rattle.frames.proofs.Wrote.{the-type as wrote-type}
 use Rattle.rows.specs.Rows.{dataBits, reserved, dataBytes, blocks, blockBytes, frameBytes}
 use Rattle.frames.specs.Blocks.{dataIn, allRight, rightBlocks}
 use Rattle.frames.specs.Slave.{slaveData, slaveFrame, slaveRead, slaveReadOut, slaveWrite, slaveWriteOut}
 use Rattle.frames.proofs.Order.{read-done}
 use Rattle.rows.proofs.Rows.{full, whole, whole-most}
 use Rattle.frames.proofs.RoundTrip.{slave-accepted}
-use Rattle.port_table.proofs.OneMore.{size-most}
 
 -- "1; 2" of a frame
 abbrev pub frameCheck : ℕ → List ℕ → ℕ
@@ -59,7 +60,11 @@ slave-data-length f w e = data-length (blocks f) (blockBytes f) w (e ∙ sym (wh
 same-number : (n : ℕ) (R : Refusal) → refusal n ≡ refusing R → n ≡ numberOf R
 same-number n R e = cc
 
--- what an answer tells, by its case
+-- what an answer tells, by its case: where only the case is known, and where the answer is
+pub told-some : (w : Wrote) → tagOf wrote-type w ≡ 0 → {x : Told} → toldWrote w ≡ x → (n : ℕ) × (gives (n ∷ []) ≡ x)
+told-some (Wrote'.Bytes n) h t = (n, t)
+told-some (Wrote'.Refused R) h t = absurd (omega arith)
+
 pub told-bytes : {w : Wrote} {n : ℕ} {x : Told} → w ≡ Wrote'.Bytes n → toldWrote w ≡ x → gives (n ∷ []) ≡ x
 told-bytes e t = sym (ap toldWrote e) ∙ t
 
@@ -67,29 +72,29 @@ pub told-refused : {w : Wrote} {R : Refusal} {x : Told} → w ≡ Wrote'.Refused
 told-refused e t = sym (ap toldWrote e) ∙ t
 
 module _ (f : ℕ) (frame : List ℕ) where
-  -- an accepted frame, and its data in what the reader wrote
-  pub read-gives : (n : ℕ) (out : List ℕ) → gives (n ∷ []) ≡ slaveRead f frame (length out) → (frameCheck f frame ≡ 0) × (take n (slaveReadOut f frame out) ≡ slaveData f frame)
+  -- an accepted frame, its data in what the reader wrote, and how many bytes they are
+  pub read-gives : (n : ℕ) (out : List ℕ) → gives (n ∷ []) ≡ slaveRead f frame (length out)
+      → (frameCheck f frame ≡ 0) × (slaveReadOut f frame out ≡ slaveData f frame ++ drop (dataBytes f) out) × (length (slaveData f frame) ≡ dataBytes f)
   unfolding slaveReadOut
   read-gives n out t =
-      let p = slave-accepted f frame (length out) n (sym t) in
-      let l = slave-data-length f frame (p .1) in (
+      let p = slave-accepted f frame (length out) n (sym t) in (
         simp (eq-eqb (length frame) (frameBytes f) (p .1), eq-eqb (rightBlocks (blocks f) (blockBytes f) frame) (blocks f) (p .2)),
-        ap (take n) (sym (read-done f frame (length out) (λ k. out) (slaveData f frame ++ drop (dataBytes f) out) (p .0) (p .1) (p .2) (p .3)))
-            ∙ take-at (slaveData f frame) (drop (dataBytes f) out) n (l ∙ p .4),
+        sym (read-done f frame (length out) (λ k. out) (slaveData f frame ++ drop (dataBytes f) out) (p .0) (p .1) (p .2) (p .3)),
+        slave-data-length f frame (p .1),
       )
 
-  -- it has so many bytes
-  pub read-bytes : (n room : ℕ) → gives (n ∷ []) ≡ slaveRead f frame room → (n ≡ dataBytes f) × (n ≤ 32)
-  read-bytes n room t = let e : n ≡ dataBytes f = sym (slave-accepted f frame room n (sym t) .4) in (e, omega (arith, size-most f))
-
-  pub read-refuses : (room : ℕ) (R : Refusal) → f ≤ 4 → 32 ≤ room → refusing R ≡ slaveRead f frame room → (frameCheck f frame ≡ numberOf R) × (eqb (numberOf R) 0 ≡ false)
-  unfolding slaveRead
-  read-refuses room R h k t = go (eqb (length frame) (frameBytes f)) (allRight (blocks f) (blockBytes f) frame) (t ∙ simp (process-data f h, le-ltb room (dataBytes f) (omega (arith, size-most f))))
+  -- a refused frame, where the output has room, and an output as it was
+  pub read-refuses : (out : List ℕ) (R : Refusal) → f ≤ 4 → dataBytes f ≤ length out → refusing R ≡ slaveRead f frame (length out)
+      → (frameCheck f frame ≡ numberOf R) × (eqb (numberOf R) 0 ≡ false) × (slaveReadOut f frame out ≡ out)
+  unfolding slaveRead slaveReadOut
+  read-refuses out R h k t =
+      go (eqb (length frame) (frameBytes f)) (allRight (blocks f) (blockBytes f) frame) (t ∙ simp (process-data f h, le-ltb (length out) (dataBytes f) k)) (simp (process-data f h, le-ltb (length out) (dataBytes f) k))
     where
-      go : (a b : Bool) → refusing R ≡ cond (not a) (refusal 1) (cond (not b) (refusal 2) (gives (dataBytes f ∷ []))) → (cond (not a) 1 (cond (not b) 2 0) ≡ numberOf R) × (eqb (numberOf R) 0 ≡ false)
-      go true true t = absurd (never-both (dataBytes f ∷ []) R (sym t))
-      go true false t = let e = same-number 2 R (sym t) in (e, ap (λ (n : ℕ). eqb n 0) (sym e))
-      go false b t = let e = same-number 1 R (sym t) in (e, ap (λ (n : ℕ). eqb n 0) (sym e))
+      go : (a b : Bool) → refusing R ≡ cond (not a) (refusal 1) (cond (not b) (refusal 2) (gives (dataBytes f ∷ []))) → {x : List ℕ} → x ≡ cond (not a) out (cond (not b) out (slaveData f frame ++ drop (dataBytes f) out))
+          → (cond (not a) 1 (cond (not b) 2 0) ≡ numberOf R) × (eqb (numberOf R) 0 ≡ false) × (x ≡ out)
+      go true true t x = absurd (never-both (dataBytes f ∷ []) R (sym t))
+      go true false t x = let e = same-number 2 R (sym t) in (e, ap (λ (n : ℕ). eqb n 0) (sym e), x)
+      go false b t x = let e = same-number 1 R (sym t) in (e, ap (λ (n : ℕ). eqb n 0) (sym e), x)
 
 module _ (f : ℕ) (d : List ℕ) (h : f ≤ 4) (l : length d ≡ dataBytes f) where
   pub write-gives : (n : ℕ) (out : List ℕ) → gives (n ∷ []) ≡ slaveWrite f d (length out) → (outCheck f out ≡ 0) × (n ≡ frameBytes f) × (slaveWriteOut f d out ≡ slaveFrame f d ++ drop (frameBytes f) out)

@@ -1,6 +1,6 @@
 pub mod Frames
 pub mod Bytes
-pub mod Marks
+pub mod Ageing
 pub mod Order
 pub mod Outcomes
 pub mod OwnPortOnly

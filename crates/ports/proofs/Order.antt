@@ -5,9 +5,10 @@ use mathlib.Core.Bool.{Bool, true, false, not, cond}
 use mathlib.Core.List.{List, [], _∷_, _++_}
 use Prim.Native.Nat.{ℕ, _+_, _-_, _≤_, _<_}
 use native.Mathlib.Omega.{arith}
-use borrow.Author.Tests.{eq-eqb, ne-eqb, lt-ltb, le-ltb, not-true, not-false}
+use borrow.Author.Tests.{eq-eqb, ne-eqb, lt-ltb, le-ltb, ltb-false, not-true, not-false}
 use lib.Dec.{eqb, ltb}
 use lib.ListN.{length, getD, set, take, drop}
+use lib.Seq.{take-length}
 use Rattle.refusals.specs.Told.{gives, refusal, refusing}
 use Rattle.refusals.specs.declared.Refusal.{Refusal}
 use Rattle.refusals.specs.declared.Refusal.the-variants.{WrongLength, TooShort, TableNotGood, NotProcessData, NoSuchPort, FcodeNotPorts, WrongDirection}
@@ -29,11 +30,11 @@ use Rattle.ports.specs.Arriving.{arriveRefusal, arrive, arriveStore, arr
 use Rattle.ports.specs.Answering.{answerRefusal, answer, answerOut}
 use Rattle.ports.specs.Reading.{readRefusal, read, readOut, readAge}
 use Rattle.ports.specs.Filling.{fillRefusal, fill, fillStore}
-use Rattle.ports.specs.Ticking.{tickRefusal, tick, tickAges}
-use Rattle.ports.specs.Inside.{Arrived, Answered, HasRead, Filled, Ticked, Showed, agedDown}
+use Rattle.ports.specs.Ticking.{aged, tickRefusal, tick, tickAges}
+use Rattle.ports.specs.Inside.{Arrived, Answered, HasRead, Filled, Showed, tickCode, dueOf}
 use Rattle.frames.proofs.Turns.{length-part}
-use Rattle.ports.proofs.Bytes.{front, front-is}
-use Rattle.ports.proofs.Marks.{aged-down}
+use Rattle.ports.proofs.Bytes.{front, front-is, front-whole, from, from-room, putFrom, put-is, put-kept}
+use Rattle.ports.proofs.Ageing.{aged-none}
 use Rattle.ports.proofs.Frames.{frameCheck, outCheck, read-gives, read-refuses, write-gives, write-refuses}
 
 -- ---- answers
@@ -118,23 +119,25 @@ module _ (s : Seen) (store ages : List ℕ) (word : ℕ) (frame : List ℕ) wher
                   arrive-on : arriveAt s store ages word frame ≡ frameCheck (fCode word) frame
                   arrive-on = simp (not-false (s .good) g, le-ltb (length store) (s .bytes) h1, le-ltb (length ages) (s .count) h2, le-ltb 4 (fCode word) (omega arith), lt-ltb (s .place .at) (s .count) h4, eq-eqb (s .place .«f_code») (fCode word) (h5 ∙ ef), ne-eqb (s .place .sink) 0 h6)
 
-                  pub arrive-frame : (room : ℕ) (R : Refusal) → 32 ≤ room → refusing R ≡ slaveRead f frame room → r ≡ codeOf R → Arrived s store ages word frame r store ages
-                  arrive-frame room R k t c =
-                      let n = read-refuses f frame room R h3 k t in
-                      arrive-no (numberOf R) (refusal-told r R c) (n .1) (arrive-on ∙ ap (λ (x : ℕ). frameCheck x frame) (sym ef) ∙ n .0)
+                  -- the store from the port on, with `v` in its place afterwards
+                  module _ (room : s .place .offset + dataBytes f ≤ length store) (v : List ℕ) (ev : v ≡ slaveReadOut f frame (from (s .place .offset) store)) where
+                    pub arrive-frame : (R : Refusal) → refusing R ≡ slaveRead f frame (length (from (s .place .offset) store)) → r ≡ codeOf R → Arrived s store ages word frame r (putFrom (s .place .offset) store v) ages
+                    arrive-frame R t c =
+                        let n = read-refuses f frame (from (s .place .offset) store) R h3 (from-room (s .place .offset) (dataBytes f) store room) t in
+                        subst (λ (l : List ℕ). Arrived s store ages word frame r l ages) (sym (put-kept (s .place .offset) store v (ev ∙ n .2)))
+                        (arrive-no (numberOf R) (refusal-told r R c) (n .1) (arrive-on ∙ ap (λ (x : ℕ). frameCheck x frame) (sym ef) ∙ n .0))
 
-                  pub arrive-done : (n : ℕ) (scratch scratch' store' : List ℕ) → gives (n ∷ []) ≡ slaveRead f frame (length scratch) → scratch' ≡ slaveReadOut f frame scratch
-                      → store' ≡ replaced (s .place .offset) (take n scratch') store → r ≡ 0 → Arrived s store ages word frame r store' (set ages (s .place .at) 0)
-                  unfolding arrive arriveStore arriveAges
-                  arrive-done n scratch scratch' store' t es e0 er = λ ps e.
-                      let d = read-gives f frame n scratch t in
-                      let k : arriveRefusal ps store ages word frame ≡ 0 = arrive-shown ps e ∙ arrive-on ∙ ap (λ (x : ℕ). frameCheck x frame) (sym ef) ∙ d .0 in
-                      let z = shown s (address word) ps e g .1 in
-                      let new : take n scratch' ≡ slaveData (fCode word) frame = ap (take n) es ∙ d .1 ∙ ap (λ (x : ℕ). slaveData x frame) ef in (
-                        ap toldCode er ∙ value-told 0 (omega arith) ∙ answered-yes k (0 ∷ []),
-                        e0 ∙ ap₂ (λ (t : Seen) (l : List ℕ). replaced (t .place .offset) l store) z new ∙ changed k _ store,
-                        ap (λ (t : Seen). set ages (t .place .at) 0) z ∙ changed k _ ages,
-                      )
+                    pub arrive-done : (n : ℕ) → gives (n ∷ []) ≡ slaveRead f frame (length (from (s .place .offset) store)) → r ≡ 0 → Arrived s store ages word frame r (putFrom (s .place .offset) store v) (set ages (s .place .at) 0)
+                    unfolding arrive arriveStore arriveAges
+                    arrive-done n t er = λ ps e.
+                        let d = read-gives f frame n (from (s .place .offset) store) t in
+                        let k : arriveRefusal ps store ages word frame ≡ 0 = arrive-shown ps e ∙ arrive-on ∙ ap (λ (x : ℕ). frameCheck x frame) (sym ef) ∙ d .0 in
+                        let z = shown s (address word) ps e g .1 in (
+                          ap toldCode er ∙ value-told 0 (omega arith) ∙ answered-yes k (0 ∷ []),
+                          put-is store (slaveData f frame) v (s .place .offset) (omega (arith, d .2)) (ev ∙ d .1 ∙ front-whole (slaveData f frame) (dataBytes f) (from (s .place .offset) store) (d .2))
+                              ∙ ap₂ (λ (t : Seen) (x : ℕ). replaced (t .place .offset) (slaveData x frame) store) z ef ∙ changed k _ store,
+                          ap (λ (t : Seen). set ages (t .place .at) 0) z ∙ changed k _ ages,
+                        )
 
 -- ---- an answer
 
@@ -341,31 +344,47 @@ module _ (s : Seen) (store d : List ℕ) where
 pub few : (s : Seen) → Showed s → not (s .good) ≡ false → s .count ≤ 256
 few s (a, (ps, e)) g = let z = shown s a ps e g in subst (λ (t : Seen). t .count ≤ 256) (sym (z .1)) (good-split ps (z .0) .0)
 
-module _ (s : Seen) (ages : List ℕ) where
-  tick-shown : (a : ℕ) (ps : List Port) → s ≡ seenOf a ps → tickRefusal ps ages ≡ cond (not (s .good)) 13 (cond (ltb (length ages) (s .count)) 4 0)
+-- what a tick answers, how many records it ages, and what that leaves
+pub record Ticks (ps : List Port) (ages : List ℕ) (r due : ℕ) : Type 0 where
+  pub told : toldCode r ≡ tick ps ages
+  pub recorded : due ≤ length ps
+  pub lent : due ≤ length ages
+  pub left : aged (take due ps) ages ≡ tickAges ps ages
+
+tick-no : (ps : List Port) (ages : List ℕ) (R : Refusal) → eqb (numberOf R) 0 ≡ false → tickRefusal ps ages ≡ numberOf R → Ticks ps ages (codeOf R) 0
+unfolding tick tickAges
+tick-no ps ages R p k = record {
+  told = refusal-told (codeOf R) R refl ∙ answered-no k p (0 ∷ []);
+  recorded = omega arith;
+  lent = omega arith;
+  left = aged-none ps ages ∙ kept k p _ ages;
+}
+
+tick-yes : (ps : List Port) (ages : List ℕ) → length ps ≤ length ages → tickRefusal ps ages ≡ 0 → Ticks ps ages 0 (length ps)
+unfolding tick tickAges
+tick-yes ps ages h k = record {
+  told = value-told 0 (omega arith) ∙ answered-yes k (0 ∷ []);
+  recorded = omega arith;
+  lent = h;
+  left = ap (λ (l : List Port). aged l ages) (take-length ps) ∙ changed k _ ages;
+}
+
+module _ (ps : List Port) (ages : List ℕ) (a : ℕ) where
+  abbrev OfShown : Seen → Type 0
+  OfShown s = Ticks ps ages (tickCode s (length ages)) (dueOf s (tickCode s (length ages)))
+
+  abbrev OfGood : Bool → Type 0
+  OfGood short = Ticks ps ages (cond short (codeOf TooShort) 0) (cond (eqb (cond short (codeOf TooShort) 0) 0) (length ps) 0)
+
+  tick-shown : OfShown (seenOf a ps)
   unfolding tickRefusal
-  tick-shown a ps e = by-shown (λ t. cond (not (t .good)) 13 (cond (ltb (length ages) (t .count)) 4 0)) _ s a ps e (λ t. simp t) (λ f. simp f)
+  tick-shown = by-cases (good ps)
+      (λ g. subst OfShown (sym (seen-good a ps g)) (by-cases (ltb (length ages) (length ps))
+      (λ t. subst OfGood (sym t) (tick-no ps ages TooShort refl (simp (g, t))))
+      (λ f. subst OfGood (sym f) (tick-yes ps ages (ltb-false (length ages) (length ps) f) (simp (g, f))))))
+      (λ b. subst OfShown (sym (seen-bad a ps b)) (tick-no ps ages TableNotGood refl (simp b)))
 
-  module _ (r : ℕ) where
-    tick-no : (n : ℕ) → toldCode r ≡ refusal n → eqb n 0 ≡ false → cond (not (s .good)) 13 (cond (ltb (length ages) (s .count)) 4 0) ≡ n → Ticked s ages r ages
-    unfolding tick tickAges
-    tick-no n t p h = λ a ps e.
-        let k : tickRefusal ps ages ≡ n = tick-shown a ps e ∙ h in
-        (t ∙ answered-no k p (0 ∷ []), kept k p _ ages)
-
-    pub tick-13 : not (s .good) ≡ true → r ≡ codeOf TableNotGood → Ticked s ages r ages
-    tick-13 g c = tick-no 13 (refusal-told r TableNotGood c) refl (simp (not-true (s .good) g))
-
-    module _ (g : not (s .good) ≡ false) where
-      pub tick-4 : length ages < s .count → r ≡ codeOf TooShort → Ticked s ages r ages
-      tick-4 h c = tick-no 4 (refusal-told r TooShort c) refl (simp (not-false (s .good) g, lt-ltb (length ages) (s .count) h))
-
-      pub tick-done : s .count ≤ length ages → (ages' : List ℕ) → ages' ≡ agedDown (s .count) (s .marks) ages → r ≡ 0 → Ticked s ages r ages'
-      unfolding tick tickAges
-      tick-done h ages' ea er = λ a ps e.
-          let k : tickRefusal ps ages ≡ 0 = tick-shown a ps e ∙ simp (not-false (s .good) g, le-ltb (length ages) (s .count) h) in
-          let z = shown s a ps e g in
-          let all : length ps ≤ length ages = subst (λ (t : Seen). t .count ≤ length ages) (z .1) h in (
-            ap toldCode er ∙ value-told 0 (omega arith) ∙ answered-yes k (0 ∷ []),
-            ea ∙ ap (λ (t : Seen). agedDown (t .count) (t .marks) ages) (z .1) ∙ aged-down ps ages (good-split ps (z .0) .0) all ∙ changed k _ ages,
-          )
+pub ticks : (s : Seen) (a : ℕ) (ps : List Port) (ages : List ℕ) (r due : ℕ) → s ≡ seenOf a ps → r ≡ tickCode s (length ages) → due ≡ dueOf s r → Ticks ps ages r due
+ticks s a ps ages r due e er ed =
+    subst (λ (d : ℕ). Ticks ps ages r d) (sym ed)
+    (subst (λ (n : ℕ). Ticks ps ages n (dueOf s n)) (sym er) (subst (OfShown ps ages a) (sym e) (tick-shown ps ages a)))

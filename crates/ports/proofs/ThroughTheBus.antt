@@ -46,7 +46,10 @@ module _ (f : ℕ) (d : List ℕ) (p : f ≤ 4) (l : length d ≡ dataBytes f) w
       let r = slave-written-is-read f (frameBytes f) d (slaveFrame f d) d (written .0) (omega arith) in
       let told : slaveRead f (slaveFrame f d) (length d) ≡ gives (length d ∷ []) = ap (λ (w : List ℕ). slaveRead f w (length d)) (sym (written .1)) ∙ r .0 in
       let back : slaveReadOut f (slaveFrame f d) d ≡ d ++ drop (length d) d = ap (λ (w : List ℕ). slaveReadOut f w d) (sym (written .1)) ∙ r .1 in
-      (slave-accepted f (slaveFrame f d) (length d) (length d) told .2, sym (read-gives f (slaveFrame f d) (length d) d (sym told) .1) ∙ ap (take (length d)) back ∙ take-at d (drop (length d) d) (length d) refl)
+      let g = read-gives f (slaveFrame f d) (length d) d (sym told) in (
+        slave-accepted f (slaveFrame f d) (length d) (length d) told .2,
+        sym (take-at (slaveData f (slaveFrame f d)) (drop (dataBytes f) d) (length d) (g .2 ∙ sym l)) ∙ ap (take (length d)) (sym (g .1) ∙ back) ∙ take-at d (drop (length d) d) (length d) refl,
+      )
 
 -- ---- the source's side
 

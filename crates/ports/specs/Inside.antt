@@ -1,22 +1,23 @@
 -- What the functions inside the crate promise each other: the rules, over what a walk showed, the same as the calls of every table that shows it.
 -- Assumes nothing.
 use mathlib.Core.Path.{_≡_}
-use mathlib.Core.Bool.{cond}
-use mathlib.Core.List.{List, [], _∷_}
-use Prim.Native.Nat.{ℕ, zero, suc, _+_, _*_, _/_, _%_, _^_}
-use lib.Dec.{eqb}
-use lib.ListN.{getD, set}
-use Rattle.refusals.specs.Codes.{toldCode}
+use mathlib.Core.Bool.{not, cond}
+use mathlib.Core.List.{List}
+use Prim.Native.Nat.{ℕ}
+use lib.Dec.{eqb, ltb}
+use Rattle.refusals.specs.declared.Refusal.the-variants.{TooShort, TableNotGood}
+use Rattle.refusals.specs.Codes.{codeOf, toldCode}
 use Rattle.frames.specs.Words.{address}
 use Rattle.port_table.specs.declared.Port.{Port}
 use Rattle.port_table.specs.declared.Seen.{Seen}
+use Rattle.port_table.specs.Table.{isSink}
 use Rattle.port_table.specs.Seen.{seenOf}
 use Rattle.port_table.specs.Inside.{Walked}
 use Rattle.ports.specs.Arriving.{arrive, arriveStore, arriveAges}
 use Rattle.ports.specs.Answering.{answer, answerOut}
 use Rattle.ports.specs.Reading.{read, readOut, readAge}
 use Rattle.ports.specs.Filling.{fill, fillStore}
-use Rattle.ports.specs.Ticking.{tick, tickAges, older}
+use Rattle.ports.specs.Ticking.{older}
 
 -- of an arrival: the answer, the store and the ages afterwards
 abbrev pub Arrived : Seen → List ℕ → List ℕ → ℕ → List ℕ → ℕ → List ℕ → List ℕ → Type 0
@@ -42,24 +43,14 @@ abbrev pub Filled : Seen → List ℕ → List ℕ → ℕ → List ℕ → Type
 Filled s store d r store' =
     (a : ℕ) (ps : List Port) → s ≡ seenOf a ps → (toldCode r ≡ fill ps store a d) × (store' ≡ fillStore ps store a d)
 
--- of a tick: the answer and the ages afterwards
-abbrev pub Ticked : Seen → List ℕ → ℕ → List ℕ → Type 0
-Ticked s ages r ages' = (a : ℕ) (ps : List Port) → s ≡ seenOf a ps → (toldCode r ≡ tick ps ages) × (ages' ≡ tickAges ps ages)
+-- a tick's answer, over what a walk showed and the number of ages
+abbrev pub tickCode : Seen → ℕ → ℕ
+tickCode s n = cond (not (s .good)) (codeOf TableNotGood) (cond (ltb n (s .count)) (codeOf TooShort) 0)
 
--- the age by a record's mark, 0 for a source
-abbrev pub olderBy : ℕ → ℕ → ℕ
-olderBy mark age = cond (eqb mark 0) age (older age)
+-- how many records it ages: all, or none where it is refused
+abbrev pub dueOf : Seen → ℕ → ℕ
+dueOf s answer = cond (eqb answer 0) (s .count) 0
 
--- the marks without the newest: 256 bits, one down
-abbrev pub unmark : List ℕ → List ℕ
-unmark m =
-    (getD m 0 0 / 2 + getD m 1 0 % 2 * 2 ^ 63)
-    ∷ (getD m 1 0 / 2 + getD m 2 0 % 2 * 2 ^ 63)
-    ∷ (getD m 2 0 / 2 + getD m 3 0 % 2 * 2 ^ 63)
-    ∷ (getD m 3 0 / 2)
-    ∷ []
-
--- the ages by marks, from the last of so many records to the first
-unfoldable pub agedDown : ℕ → List ℕ → List ℕ → List ℕ
-agedDown zero m ages = ages
-agedDown (suc i) m ages = agedDown i (unmark m) (set ages i (olderBy (getD m 0 0 % 2) (getD ages i 0)))
+-- a record's age after a tick
+abbrev pub olderPort : Port → ℕ → ℕ
+olderPort p age = cond (isSink p) (older age) age

@@ -67,5 +67,8 @@ pub extern "C" fn mvb_tick(table: &[Port], ages: &mut [u16]) -> u32
     ensures { λ r. ⌜ (toldCode r ≡ tick (now (table .entry)) (now (ages .entry))) × (now (ages .exit) ≡ tickAges (now (table .entry)) (now (ages .entry))) ⌝ }
 {
     let seen = port_table::look(table, 0);
-    ticks::tick(seen, ages)
+    let answer = ticks::answer(seen, ages.len());
+    let due = ticks::due(seen, answer);
+    ticks::age_all(due, table, ages);
+    answer
 }

@@ -39,7 +39,7 @@ fn put(data: &[u8], store: &mut [u8], offset: usize)
     bytes::copy(data, &mut store[offset..]);
 }
 
-// 13; 4 for store, then ages; 14; 15; 16; 17; 1 and 2 of the frame. The data passes through a scratch area.
+// 13; 4 for store, then ages; 14; 15; 16; 17; 1 and 2 of the frame. The store has room from the port on.
 pub(crate) fn arrive(seen: Seen, store: &mut [u8], ages: &mut [u16], word: u16, frame: &[u8]) -> u32
     requires { ⌜ Walked seen (address word) ⌝ }
     ensures { λ r. ⌜ Arrived seen (now (store .entry)) (now (ages .entry)) word (now (frame .entry)) r (now (store .exit)) (now (ages .exit)) ⌝ }
@@ -69,11 +69,10 @@ pub(crate) fn arrive(seen: Seen, store: &mut [u8], ages: &mut [u16], word: u16, 
     if place.sink == 0 {
         return Refusal::WrongDirection.code();
     }
-    let mut scratch = [0u8; 32];
-    let got = frames::slave_read(f_code, frame, &mut scratch);
+    let offset = place.offset;
+    let got = frames::slave_read(f_code, frame, &mut store[offset..]);
     match got {
-        Wrote::Bytes(n) => {
-            put(&scratch[..n], store, place.offset);
+        Wrote::Bytes(_) => {
             ages[at] = 0;
             0
         }

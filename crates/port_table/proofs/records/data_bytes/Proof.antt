@@ -3,6 +3,7 @@
 use mathlib.Core.Path.{_≡_, ap, sym}
 use Prim.Native.Nat.{ℕ}
 use native.Mathlib.Omega.{arith}
+use borrow.Author.Needs.{needs}
 use Rattle.rows.specs.Rows.{dataBits, dataBytes}
 use Rattle.port_table.proofs.records.data_bytes.Statement.{statement}
 use Rattle.port_table.proofs.records.data_bytes.Tie as tie
@@ -15,8 +16,9 @@ unfolding dataBytes dataBits
 data-bytes-spec =
     tie.close
     (tie.spec
-    (λ c. sized _ 0 (c .match .keys1))
-    (λ c. sized _ 1 (c .match .keys2))
-    (λ c. sized _ 2 (c .match .keys3))
-    (λ c. sized _ 3 (c .match .keys4))
-    (λ c. sized (c .before .args .f-code) 4 (omega (arith, c .before .pre, c .match .rest .0 .0 .0 .1, c .match .rest .0 .0 .1, c .match .rest .0 .1, c .match .rest .1))))
+    (λ c. (λ _. sized _ 0 (c .match .keys1), omega arith))
+    (λ c. (λ _. sized _ 1 (c .match .keys2), omega arith))
+    (λ c. (λ _. sized _ 2 (c .match .keys3), omega arith))
+    (λ c. (λ _. sized _ 3 (c .match .keys4), omega arith))
+    (λ c. (λ _. sized _ 4 (c .match .keys5), omega arith))
+    (λ c. search needs))

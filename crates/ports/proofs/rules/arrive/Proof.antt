@@ -1,15 +1,13 @@
 -- `ports::rules::arrive` meets its contract: each way out is one of the order of checks.
 -- Assumes nothing.
-use mathlib.Core.Path.{_≡_, refl, sym, ap, _∙_}
-use Prim.Native.Nat.{_≤_}
+use mathlib.Core.Path.{refl, sym, ap}
+use Prim.Native.Nat.{_+_, _≤_}
 use native.Mathlib.Omega.{arith}
 use Rattle.rows.specs.Rows.{dataBytes}
 use Rattle.frames.specs.Words.{address}
-use Rattle.ports.proofs.Frames.{read-bytes, told-bytes, told-refused}
+use Rattle.ports.proofs.Frames.{told-some, told-refused}
 use Rattle.ports.proofs.Bytes.{port-within}
-use native.Mathlib.Nat.{le-trans, le-of-eq}
-use lib.ListN.{length-take}
-use lib.Seq.{length-take-le}
+use lib.ListN.{length}
 use borrow.Author.Needs.{needs}
 use Rattle.ports.proofs.Order.{arrive-13, arrive-store, arrive-ages, arrive-14, arrive-15, arrive-16, arrive-17, arrive-done, arrive-frame, few}
 use Rattle.ports.proofs.rules.arrive.Statement.{statement}
@@ -71,14 +69,10 @@ returns-7 c =
     let s : tie.Start = k1 .before .before .before .before in
     arrive-17 (s .args .seen) _ _ _ _ _ (k1 .if1 .left) (k2 .if2 .left) (k3 .if3 .left) _ (k4 .before .f-code-of .ensures) (k4 .if4 .left) (k5 .if5 .left) (k6 .if6 .left) (c .before .if7 .taken) (c .code7 .ensures)
 
--- so many bytes were read
-bytes-read : (c : tie.After-got) → let read : tie.After-slave-read = c .before .before .before in (c .got .given .0 .0 ≡ dataBytes (read .before .before .before .before .before .before .before .before .before .before .f-code-of .result)) × (c .got .given .0 .0 ≤ 32)
-bytes-read c = read-bytes _ _ _ _ (told-bytes (c .got .given .1) (c .before .before .before .slave-read .ensures .0))
-
-put-requires : tie.Need-put-requires
-put-requires c κs =
-    let got : tie.After-got = c .before .before .before in
-    let k7 : tie.Else7 = got .before .before .before .before .before in
+-- the port lies within the store
+within : (c : tie.Else7) → let k4 : tie.Else4 = c .before .before .before .before .before .before .before in let s : tie.Start = k4 .before .before .before .before .before .before .before .before .before .before in
+    s .args .seen .place .offset + dataBytes (k4 .before .f-code-of .result) ≤ length (s .args .store .now)
+within k7 =
     let k6 : tie.Else6 = k7 .before .before in
     let k5 : tie.Else5 = k6 .before .before in
     let k4 : tie.Else4 = k5 .before .before .before in
@@ -86,11 +80,11 @@ put-requires c κs =
     let k2 : tie.Else2 = k3 .before .before in
     let k1 : tie.Else1 = k2 .before .before in
     let s : tie.Start = k1 .before .before .before .before in
-    simp length-take (omega (arith, port-within (s .args .seen) (address (s .args .word)) (s .pre) (k1 .if1 .left) (k5 .if5 .left) _ (k2 .if2 .left) _ (bytes-read got .0 ∙ ap dataBytes (sym (k6 .if6 .left)))))
+    port-within (s .args .seen) (address (s .args .word)) (s .pre) (k1 .if1 .left) (k5 .if5 .left) _ (k2 .if2 .left) _ (ap dataBytes (sym (k6 .if6 .left)))
 
 mul-ages : tie.Need-mul-ages
 mul-ages c =
-    let k7 : tie.Else7 = c .before .before .before .before .before .before .before .before .before .before .before in
+    let k7 : tie.Else7 = c .before .before .before .before .before .before in
     let k6 : tie.Else6 = k7 .before .before in
     let k5 : tie.Else5 = k6 .before .before in
     let k4 : tie.Else4 = k5 .before .before .before in
@@ -102,8 +96,8 @@ mul-ages c =
 
 returns-8 : tie.Need-returns-8
 returns-8 c =
-    let got : tie.After-got = c .before .before .before .before .before .before in
-    let read : tie.After-slave-read = got .before .before .before in
+    let read : tie.After-slave-read = c .before .before .before .before in
+    let told = told-some (read .slave-read .result) (c .before .match .keys1) (read .slave-read .ensures .0) in
     let k7 : tie.Else7 = read .before .before in
     let k6 : tie.Else6 = k7 .before .before in
     let k5 : tie.Else5 = k6 .before .before in
@@ -112,12 +106,12 @@ returns-8 c =
     let k2 : tie.Else2 = k3 .before .before in
     let k1 : tie.Else1 = k2 .before .before in
     let s : tie.Start = k1 .before .before .before .before in
-    arrive-done (s .args .seen) _ _ _ _ _ (k1 .if1 .left) (k2 .if2 .left) (k3 .if3 .left) _ (k4 .before .f-code-of .ensures) (k4 .if4 .left) (k5 .if5 .left) (k6 .if6 .left) (k7 .if7 .left) _ _ _ _ (told-bytes (got .got .given .1) (read .slave-read .ensures .0)) (read .slave-read .ensures .1) (c .before .before .put .ensures) refl
+    arrive-done (s .args .seen) _ _ _ _ _ (k1 .if1 .left) (k2 .if2 .left) (k3 .if3 .left) _ (k4 .before .f-code-of .ensures) (k4 .if4 .left) (k5 .if5 .left) (k6 .if6 .left) (k7 .if7 .left) (within k7) _ (read .slave-read .ensures .1) (told .0) (told .1) refl
 
 returns-9 : tie.Need-returns-9
 returns-9 c =
-    let got : tie.After-got2 = c .before .before in
-    let read : tie.After-slave-read = got .before .before .before in
+    let got : tie.After-got = c .before .before in
+    let read : tie.After-slave-read = got .before .before .before .before in
     let k7 : tie.Else7 = read .before .before in
     let k6 : tie.Else6 = k7 .before .before in
     let k5 : tie.Else5 = k6 .before .before in
@@ -126,7 +120,7 @@ returns-9 c =
     let k2 : tie.Else2 = k3 .before .before in
     let k1 : tie.Else1 = k2 .before .before in
     let s : tie.Start = k1 .before .before .before .before in
-    arrive-frame (s .args .seen) _ _ _ _ _ (k1 .if1 .left) (k2 .if2 .left) (k3 .if3 .left) _ (k4 .before .f-code-of .ensures) (k4 .if4 .left) (k5 .if5 .left) (k6 .if6 .left) (k7 .if7 .left) _ (got .got2 .given .0 .0) (omega arith) (told-refused (got .got2 .given .1) (read .slave-read .ensures .0)) (c .code8 .ensures)
+    arrive-frame (s .args .seen) _ _ _ _ _ (k1 .if1 .left) (k2 .if2 .left) (k3 .if3 .left) _ (k4 .before .f-code-of .ensures) (k4 .if4 .left) (k5 .if5 .left) (k6 .if6 .left) (k7 .if7 .left) (within k7) _ (read .slave-read .ensures .1) (got .got .given .0 .0) (told-refused (got .got .given .1) (read .slave-read .ensures .0)) (c .code8 .ensures)
 
 pub arrive-spec : {M : Type 1} → statement M
 arrive-spec =
@@ -147,12 +141,11 @@ arrive-spec =
     returns-6
     (λ c κs. search needs)
     returns-7
+    (λ c. omega (arith, within c))
+    (λ c. omega (arith, within c))
     (λ c. search needs)
     (λ c κs. search needs)
     (λ c. search needs)
-    (λ c. le-trans (bytes-read (c .before) .1) (le-of-eq (sym (c .before .before .before .before .slave-read .kept .1 .1 .0))))
-    (λ c. sym (length-take-le _ _ (le-trans (bytes-read (c .before .before) .1) (le-of-eq (sym (c .before .before .before .before .before .slave-read .kept .1 .1 .0))))))
-    put-requires
     mul-ages
     (λ c. search needs)
     (λ c. search needs)
@@ -160,4 +153,5 @@ arrive-spec =
     (λ c. search needs)
     (λ c. search needs)
     returns-8
+    (λ c. search needs)
     returns-9)
