@@ -7,7 +7,7 @@ ghost use Rattle.groups.specs.Groups.{isGroup, inGroup};
 pub fn bound(m: u16) -> u16
     ensures { λ r. ⌜ r ≡ 2 ^ (12 - m) ⌝ }
 {
-    if m < 12 { 4096 >> m } else { 1 }
+    if m < 13 { 4096 >> m } else { 1 }
 }
 
 // Whether {m, c} is a group.

@@ -7,7 +7,7 @@ use mathlib.Core.Logic.{⊎-elim}
 use Prim.Native.Nat.{ℕ, zero, suc, _+_, _-_, _^_, _≤_, _<_}
 use native.Mathlib.Omega.{arith}
 use lib.Dec.{ltb, eqb}
-use borrow.Author.Tests.{lt-ltb, le-ltb, eq-eqb, ne-eqb, ltb-false, not-false}
+use borrow.Author.Tests.{lt-ltb, le-ltb, eq-eqb, ne-eqb, ltb-false, not-true, not-false}
 use types.Run.{OneOf}
 use denote.Enum.Declared.{tagOf}
 use Rattle.refusals.specs.declared.Refusal.the-variants.{ImpossibleRound}
@@ -15,7 +15,7 @@ use Rattle.frames.specs.declared.LineAnswer.{LineAnswer}
 use Rattle.frames.specs.declared.LineAnswer.the-variants.{Silence, Reply, Collision}
 use Rattle.frames.specs.Words.{fCode, address}
 use Rattle.frames.proofs.LineAnswer.{the-type as answer-type}
-use Rattle.groups.specs.Groups.{isGroup, inGroup, Place, over, at, follows}
+use Rattle.groups.specs.Groups.{isGroup, inGroup, over, at, follows}
 use Rattle.groups.proofs.Follow.{is-group, after-low, after-high, after-all}
 use Rattle.groups.proofs.Powers.{twice}
 use Rattle.rounds.specs.declared.Phase.{Phase}
@@ -24,18 +24,26 @@ use Rattle.rounds.specs.declared.Counts.{Counts}
 use Rattle.rounds.specs.declared.Round.{Round}
 use Rattle.rounds.specs.declared.Step.{Step}
 use Rattle.rounds.specs.declared.Step.the-variants.{Next, End, Refused}
-use Rattle.rounds.specs.Rounds.{countsOf, round, oneRequest, oneRead, oneUnresolved, isGood, judge, ask, stand, goOn, split, heard, isAt, broken, ended, stepBy, stepOf}
-use Rattle.rounds.specs.Inside.{Sound, goodAnswer, resumed}
+use Rattle.rounds.specs.Rounds.{countsOf, round, oneRequest, oneRead, oneUnresolved, nobody, unclear, isGood, judge, ask, stand, goOn, split, heard, broken, ended, stepBy, stepOf}
+use Rattle.rounds.specs.Inside.{Sound, goodAnswer, goOnUnless, resumed}
 
 -- ---- next: up the groups, until one is a lower half
 module _ (m c half m₀ c₀ : ℕ) (k : Counts) (h : m < 12) (p : half ≡ 2 ^ (12 - (m + 1))) (i : follows m c ≡ follows m₀ c₀) where
   half-is : half ≡ 2 ^ (11 - m)
   half-is = let e : 12 - (m + 1) ≡ 11 - m = omega arith in p ∙ ap (λ (n : ℕ). 2 ^ n) e
 
-  pub next-found : c < half → ask m (c + half) k ≡ goOn m₀ c₀ k
-  next-found s =
+  -- after a lower half, the upper
+  follows-upper : c < half → follows m₀ c₀ ≡ at m (c + half)
+  follows-upper s =
       let s₂ : c < 2 ^ (11 - m) = omega (arith, half-is) in
       rw (← i, after-low m c h s₂, half-is)
+
+  -- the upper half is asked, or a full round refused
+  pub next-found : (full : Bool) → full ≡ false → c < half → ask m (c + half) k ≡ goOnUnless full m₀ c₀ k
+  next-found full f s = rw (f, follows-upper s) refl
+
+  pub next-full : (full : Bool) → full ≡ true → c < half → Refused ImpossibleRound ≡ goOnUnless full m₀ c₀ k
+  next-full full f s = rw (f, follows-upper s) refl
 
   pub next-up : half ≤ c → follows (m + 1) (c - half) ≡ follows m₀ c₀
   next-up s =
@@ -48,38 +56,55 @@ module _ (m c half m₀ c₀ : ℕ) (k : Counts) (h : m < 12) (p : half ≡ 2 ^ 
   pub group-up : c < 2 ^ (12 - m) → c - half < 2 ^ (12 - (m + 1))
   group-up l = rw (← p) (omega (arith, half-is, twice m h))
 
-pub next-over : (m c m₀ c₀ : ℕ) (k : Counts) → 12 ≤ m → follows m c ≡ follows m₀ c₀ → stand over k ≡ goOn m₀ c₀ k
-next-over m c m₀ c₀ k l i = ap (λ (p : Place). stand p k) (sym (after-all m c l) ∙ i)
+-- after the group of all devices the round ends, full or not
+pub next-over : (m c m₀ c₀ : ℕ) (k : Counts) (full : Bool) → 12 ≤ m → follows m c ≡ follows m₀ c₀ → stand over k ≡ goOnUnless full m₀ c₀ k
+next-over m c m₀ c₀ k full l i = rw (← i, after-all m c l) (ends full)
+  where
+    ends : (b : Bool) → stand over k ≡ cond (b && false) (Refused ImpossibleRound) (stand over k)
+    ends true = refl
+    ends false = refl
 
--- ---- split
-pub split-zero : (m c : ℕ) (k : Counts) (s : Step) → m ≡ 0 → s ≡ goOn m c (oneUnresolved k) → s ≡ split m c k
+-- ---- anything else: a single device is left unresolved, a group is split
+split-zero : (m c : ℕ) (k : Counts) (s : Step) → m ≡ 0 → s ≡ goOn m c (oneUnresolved k) → s ≡ split m c k
 split-zero zero c k s z e = e
 split-zero (suc m) c k s z e = absurd (let y : suc m ≡ 0 = z in omega arith)
 
-pub split-more : (m c : ℕ) (k : Counts) → ((m ≡ 0) → ⊥) → ask (m - 1) c k ≡ split m c k
+split-more : (m c : ℕ) (k : Counts) → ((m ≡ 0) → ⊥) → ask (m - 1) c k ≡ split m c k
 split-more zero c k f = absurd (f refl)
 split-more (suc m) c k f = let z : suc m - 1 ≡ m = omega arith in rw z
 
 -- ---- the answer to a request
+module _ (m c : ℕ) (a : LineAnswer) (silent : Bool) where
+  -- the answer is no good reply: it is silence, or anything else
+  abbrev pub Judged : Type 0
+  Judged = judge m c a ≡ cond silent nobody unclear
+
+  pub judge-silence : a ≡ Silence → silent ≡ true → Judged
+  judge-silence h e = rw (h, e) refl
+
+  pub judge-reply : (w : ℕ) → a ≡ Reply w → goodAnswer m c a ≡ false → silent ≡ false → Judged
+  judge-reply w h g e = let n : isGood m c w ≡ false = ap (goodAnswer m c) (sym h) ∙ g in rw (h, n, e) refl
+
+  pub judge-collision : a ≡ Collision → silent ≡ false → Judged
+  judge-collision h e = rw (h, e) refl
+
 module _ (m c : ℕ) (k : Counts) (a : LineAnswer) (s : Step) where
   abbrev Heard : Type 0
   Heard = s ≡ heard (judge m c a) m c k
 
-  pub take-silence : a ≡ Silence → s ≡ goOn m c k → Heard
-  take-silence h e = rw h e
+  pub take-good : (w : ℕ) → a ≡ Reply w → goodAnswer m c a ≡ true → s ≡ Next (round Read m c (oneRead k)) w → Heard
+  take-good w h g e = let y : isGood m c w ≡ true = ap (goodAnswer m c) (sym h) ∙ g in rw (h, y) e
 
-  pub take-collision : a ≡ Collision → s ≡ split m c k → Heard
-  take-collision h e = rw h e
+  -- no good reply
+  module _ (silent : Bool) (j : Judged m c a silent) where
+    pub take-silence : not silent ≡ false → s ≡ goOn m c k → Heard
+    take-silence n e = rw (j, not-false silent n) e
 
-  module _ (w : ℕ) (h : a ≡ Reply w) where
-    good-reply : (b : Bool) → goodAnswer m c a ≡ b → isGood m c w ≡ b
-    good-reply b g = ap (goodAnswer m c) (sym h) ∙ g
+    pub take-lower : not silent ≡ true → ((m ≡ 0) → ⊥) → s ≡ ask (m - 1) c k → Heard
+    take-lower n f e = rw (j, not-true silent n) (e ∙ split-more m c k f)
 
-    pub take-good : goodAnswer m c a ≡ true → s ≡ Next (round Read m c (oneRead k)) w → Heard
-    take-good g e = rw h (simp (good-reply true g) e)
-
-    pub take-bad : goodAnswer m c a ≡ false → s ≡ split m c k → Heard
-    take-bad g e = rw h (simp (good-reply false g) e)
+    pub take-unresolved : not silent ≡ true → m ≡ 0 → s ≡ goOn m c (oneUnresolved k) → Heard
+    take-unresolved n z e = rw (j, not-true silent n) (split-zero m c k s z e)
 
 -- no reply is no good reply
 pub no-reply : (m c : ℕ) (a : LineAnswer) → OneOf (0 ∷ 2 ∷ []) (tagOf answer-type a) → false ≡ goodAnswer m c a
@@ -92,36 +117,6 @@ reply-code m c w a b h e g = rw h (simp (eq-eqb _ _ e) g)
 
 pub reply-other : (m c w : ℕ) (a : LineAnswer) → a ≡ Reply w → ((fCode w ≡ 12) → ⊥) → eqb (fCode w) 12 ≡ goodAnswer m c a
 reply-other m c w a h f = rw h (simp (ne-eqb _ _ f))
-
--- ---- the answer to a read
-module _ (m c : ℕ) (k : Counts) where
-  where-next : (p : Place) (w : ℕ) (r : Round) → stand p k ≡ Next r w → isAt p ≡ true
-  where-next over w r h = cc
-  where-next (at m₁ c₁) w r h = refl
-
-  where-ended : (p : Place) (r : Round) (j : Counts) → stand p k ≡ End r j → isAt p ≡ false
-  where-ended over r j h = refl
-  where-ended (at m₁ c₁) r j h = cc
-
-  pub resume-refused : (w : ℕ) (r : Round) → goOn m c k ≡ Next r w → 8190 < k .requests → Refused ImpossibleRound ≡ resumed m c k
-  resume-refused w r h l = simp (lt-ltb _ _ l, where-next (follows m c) w r h)
-
-  pub resume-less : k .requests ≤ 8190 → goOn m c k ≡ resumed m c k
-  resume-less l = simp (le-ltb _ _ l)
-
-  pub resume-ended : (r : Round) (j : Counts) → goOn m c k ≡ End r j → goOn m c k ≡ resumed m c k
-  resume-ended r j h = simp (where-ended (follows m c) r j h) (same (ltb 8190 (k .requests)))
-    where
-      same : (b : Bool) → goOn m c k ≡ cond (b && false) (Refused ImpossibleRound) (goOn m c k)
-      same true = refl
-      same false = refl
-
-  never-refused : (p : Place) (n : _) → stand p k ≡ Refused n → ⊥
-  never-refused over n h = let z : _≡_ {A = ℕ} 0 1 = cc in omega arith
-  never-refused (at m₁ c₁) n h = let z : _≡_ {A = ℕ} 0 1 = cc in omega arith
-
-  pub go-on-refused : (n : _) → goOn m c k ≡ Refused n → ⊥
-  go-on-refused n h = never-refused (follows m c) n h
 
 -- ---- the step
 module _ (r : Round) (a : LineAnswer) (s : Step) where

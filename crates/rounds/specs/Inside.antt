@@ -26,6 +26,10 @@ goodAnswer m c Silence = false
 goodAnswer m c (Reply word) = isGood m c word
 goodAnswer m c Collision = false
 
--- the answer to a read: on, unless a request is still to be asked and too many have been
+-- on to what follows, unless the round is full and a request is still to be asked
+abbrev pub goOnUnless : Bool → ℕ → ℕ → Counts → Step
+goOnUnless full m c k = cond (full && isAt (follows m c)) (Refused ImpossibleRound) (goOn m c k)
+
+-- the answer to a read: the round is full where "more than 8,190 requests" are counted
 abbrev pub resumed : ℕ → ℕ → Counts → Step
-resumed m c k = cond (ltb 8190 (k .requests) && isAt (follows m c)) (Refused ImpossibleRound) (goOn m c k)
+resumed m c k = goOnUnless (ltb 8190 (k .requests)) m c k

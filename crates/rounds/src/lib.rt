@@ -7,8 +7,8 @@ ghost use mathlib.Core.Path.{_≡_};
 ghost use mathlib.Core.Bool.{true};
 ghost use Prim.Native.Nat.{_+_, _≤_};
 ghost use Rattle.groups.specs.Groups.{isGroup, over};
-ghost use Rattle.rounds.specs.Rounds.{countsOf, ask as askOf, stand, goOn, split as splitOf, heard, judge, broken as brokenOf, oneRequest, oneRead, round, stepOf, startOf};
-ghost use Rattle.rounds.specs.Inside.{Sound, goodAnswer, resumed};
+ghost use Rattle.rounds.specs.Rounds.{countsOf, ask as askOf, stand, heard, judge, broken as brokenOf, oneRequest, oneRead, round, stepOf, startOf};
+ghost use Rattle.rounds.specs.Inside.{Sound, goodAnswer, goOnUnless, resumed};
 ghost use Rattle.rounds.specs.Told.{told};
 
 // What the round waits for: the answer to a request, the answer to a read, or nothing any more.
@@ -82,23 +82,32 @@ impl Round {
         }
     }
 
-    // The answer to a request, which counts now.
+    // The answer to a request, which counts now. Neither silence nor a good reply: the lower half first, the upper
+    // follows it; or one device is left unresolved.
     fn take(mut self, answer: LineAnswer) -> Step
         requires { ⌜ Sound self ⌝ }
         ensures { λ r. ⌜ r ≡ heard (judge (self .m) (self .c) answer) (self .m) (self .c) (oneRequest (countsOf self)) ⌝ }
     {
         self.requests = self.requests + 1;
         let good = self.is_good(answer);
-        match answer {
-            LineAnswer::Silence => return self.next(),
+        let silent = match answer {
+            LineAnswer::Silence => true,
             LineAnswer::Reply(word) => {
                 if good {
                     return self.read(word);
                 }
+                false
             }
-            LineAnswer::Collision => {}
+            LineAnswer::Collision => false,
+        };
+        if !silent {
+            let m = self.m;
+            if m != 0 {
+                return self.ask(m - 1, self.c);
+            }
+            self.unresolved = self.unresolved + 1;
         }
-        self.split()
+        self.next(false)
     }
 
     // The answer to a read, whatever it is: on to what follows.
@@ -106,19 +115,10 @@ impl Round {
         requires { ⌜ isGroup (self .m) (self .c) ≡ true ⌝ }
         ensures { λ r. ⌜ r ≡ resumed (self .m) (self .c) (countsOf self) ⌝ }
     {
-        let step = match answer {
-            LineAnswer::Silence | LineAnswer::Reply(_) | LineAnswer::Collision => self.next(),
-        };
-        match step {
-            Step::Next(_, _) => {
-                if 8190 < self.requests {
-                    Step::Refused(Refusal::ImpossibleRound)
-                } else {
-                    step
-                }
-            }
-            Step::End(_, _) => step,
-            Step::Refused(_) => step,
+        match answer {
+            LineAnswer::Silence | LineAnswer::Reply(_) | LineAnswer::Collision => self.next(
+                8190 < self.requests,
+            ),
         }
     }
 
@@ -148,29 +148,20 @@ impl Round {
         Step::Next(round, word)
     }
 
-    // Neither silence nor a good reply: the lower half first, the upper follows it; or one device is left unresolved.
-    fn split(mut self) -> Step
-        requires { ⌜ (isGroup (self .m) (self .c) ≡ true) × (self .unresolved + 1 ≤ 65535) ⌝ }
-        ensures { λ r. ⌜ r ≡ splitOf (self .m) (self .c) (countsOf self) ⌝ }
-    {
-        let m = self.m;
-        if m == 0 {
-            self.unresolved = self.unresolved + 1;
-            return self.next();
-        }
-        self.ask(m - 1, self.c)
-    }
-
-    // Goes on: to the upper half, where {m, c} is a lower one, or else to what follows the group of both.
-    fn next(self) -> Step
+    // Goes on: to the upper half, where {m, c} is a lower one, or else to what follows the group of both. A full round
+    // cannot ask any more and can only end.
+    fn next(self, full: bool) -> Step
         requires { ⌜ isGroup (self .m) (self .c) ≡ true ⌝ }
-        ensures { λ r. ⌜ r ≡ goOn (self .m) (self .c) (countsOf self) ⌝ }
+        ensures { λ r. ⌜ r ≡ goOnUnless full (self .m) (self .c) (countsOf self) ⌝ }
     {
         let mut m = self.m;
         let mut c = self.c;
         while m < 12 {
             let half = groups::bound(m + 1);
             if c < half {
+                if full {
+                    return Step::Refused(Refusal::ImpossibleRound);
+                }
                 return self.ask(m, c + half);
             }
             c = c - half;
