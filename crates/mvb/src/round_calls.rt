@@ -101,8 +101,9 @@ pub extern "C" fn mvb_round_answer(run: &mut [u16], bytes: &[u8]) -> u32
     if 1 < run[0] {
         return END;
     }
+    let answer = frames::line_answer(bytes);
     let round = load(run);
-    let step = round.answer(frames::line_answer(bytes));
+    let step = round.answer(answer);
     match step {
         Step::Next(next, word) => {
             store(next, run);

@@ -20,30 +20,33 @@ returns-3 : tie.Need-returns-3
 returns-3 c =
     let told : tie.After-step = c .before .before .before .before .before .before in
     let taken : tie.After-answer = told .before .before in
-    let waits : tie.Else2 = taken .before .before .before .before in (
+    let heard : tie.After-line-answer = taken .before .before .before in
+    let waits : tie.Else2 = heard .before in (
       ap toldCode (c .wide .ensures) ∙ value-told (told .step .given .0 .1 .0) (omega (arith, c .before .before .before .before .before .known-told .given))
-          ∙ step-answer _ _ (waits .before .before .if1 .left) (waits .if2 .left) (taken .before .before .load .ensures) (taken .before .line-answer .result) (taken .before .line-answer .ensures) (taken .answer .ensures) _ (told .step .given .1),
-      step-run _ _ (waits .before .before .if1 .left) (waits .if2 .left) (taken .before .before .load .ensures) (taken .before .line-answer .result) (taken .before .line-answer .ensures) (taken .answer .ensures) _ (told .step .given .1) _ (c .before .before .before .store .ensures),
+          ∙ step-answer _ _ (waits .before .before .if1 .left) (waits .if2 .left) (taken .before .load .ensures) (heard .line-answer .result) (heard .line-answer .ensures) (taken .answer .ensures) _ (told .step .given .1),
+      step-run _ _ (waits .before .before .if1 .left) (waits .if2 .left) (taken .before .load .ensures) (heard .line-answer .result) (heard .line-answer .ensures) (taken .answer .ensures) _ (told .step .given .1) _ (c .before .before .before .store .ensures),
     )
 
 returns-4 : tie.Need-returns-4
 returns-4 c =
     let told : tie.After-step2 = c .before .before .before .before .before in
     let taken : tie.After-answer = told .before .before in
-    let waits : tie.Else2 = taken .before .before .before .before in (
+    let heard : tie.After-line-answer = taken .before .before .before in
+    let waits : tie.Else2 = heard .before in (
       end-told
-          ∙ step-answer _ _ (waits .before .before .if1 .left) (waits .if2 .left) (taken .before .before .load .ensures) (taken .before .line-answer .result) (taken .before .line-answer .ensures) (taken .answer .ensures) _ (told .step2 .given .1),
-      step-run _ _ (waits .before .before .if1 .left) (waits .if2 .left) (taken .before .before .load .ensures) (taken .before .line-answer .result) (taken .before .line-answer .ensures) (taken .answer .ensures) _ (told .step2 .given .1) _ (c .before .before .store2 .ensures),
+          ∙ step-answer _ _ (waits .before .before .if1 .left) (waits .if2 .left) (taken .before .load .ensures) (heard .line-answer .result) (heard .line-answer .ensures) (taken .answer .ensures) _ (told .step2 .given .1),
+      step-run _ _ (waits .before .before .if1 .left) (waits .if2 .left) (taken .before .load .ensures) (heard .line-answer .result) (heard .line-answer .ensures) (taken .answer .ensures) _ (told .step2 .given .1) _ (c .before .before .store2 .ensures),
     )
 
 returns-5 : tie.Need-returns-5
 returns-5 c =
     let told : tie.After-step3 = c .before .before in
     let taken : tie.After-answer = told .before .before in
-    let waits : tie.Else2 = taken .before .before .before .before in (
+    let heard : tie.After-line-answer = taken .before .before .before in
+    let waits : tie.Else2 = heard .before in (
       refusal-told (c .code2 .result) (told .step3 .given .0 .0) (c .code2 .ensures)
-          ∙ step-answer _ _ (waits .before .before .if1 .left) (waits .if2 .left) (taken .before .before .load .ensures) (taken .before .line-answer .result) (taken .before .line-answer .ensures) (taken .answer .ensures) _ (told .step3 .given .1),
-      step-run _ _ (waits .before .before .if1 .left) (waits .if2 .left) (taken .before .before .load .ensures) (taken .before .line-answer .result) (taken .before .line-answer .ensures) (taken .answer .ensures) _ (told .step3 .given .1) _ refl,
+          ∙ step-answer _ _ (waits .before .before .if1 .left) (waits .if2 .left) (taken .before .load .ensures) (heard .line-answer .result) (heard .line-answer .ensures) (taken .answer .ensures) _ (told .step3 .given .1),
+      step-run _ _ (waits .before .before .if1 .left) (waits .if2 .left) (taken .before .load .ensures) (heard .line-answer .result) (heard .line-answer .ensures) (taken .answer .ensures) _ (told .step3 .given .1) _ refl,
     )
 
 pub mvb-round-answer-spec : {M : Type 1} → statement M
