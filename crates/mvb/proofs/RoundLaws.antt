@@ -20,7 +20,7 @@ use Rattle.frames.proofs.Apart.{lines-apart}
 use Rattle.groups.specs.Groups.{follows, requestWord}
 use Rattle.rounds.specs.declared.Counts.{Counts}
 use Rattle.rounds.specs.declared.Phase.{Phase}
-use Rattle.rounds.specs.declared.Phase.the-variants.{Asked, Ended}
+use Rattle.rounds.specs.declared.Phase.the-variants.{Asked, Read, Ended}
 use Rattle.rounds.specs.declared.Round.{Round}
 use Rattle.rounds.specs.declared.Step.{Step}
 use Rattle.rounds.specs.declared.Step.the-variants.{Next, End, Refused}
@@ -31,10 +31,15 @@ use Rattle.mvb.specs.Rounds.{phaseOf, roundIn, stored, toldStep, runAfte
 
 -- ---- six numbers
 
-pub any-other : (n : ℕ) → (n ≡ 0 → ⊥) → (n ≡ 1 → ⊥) → Ended ≡ phaseOf n
-any-other zero a b = absurd (a refl)
-any-other (suc zero) a b = absurd (b refl)
-any-other (suc (suc n)) a b = refl
+pub above-one : (n : ℕ) → 1 < n → Ended ≡ phaseOf n
+above-one zero h = absurd (omega arith)
+above-one (suc zero) h = absurd (omega arith)
+above-one (suc (suc n)) h = refl
+
+pub just-one : (n : ℕ) → n ≤ 1 → ((n ≡ 0) → ⊥) → Read ≡ phaseOf n
+just-one zero h f = absurd (f refl)
+just-one (suc zero) h f = refl
+just-one (suc (suc n)) h f = absurd (omega arith)
 
 six-set : (l : List ℕ) (p m c q r u : ℕ) → 6 ≤ length l → set (set (set (set (set (set l 0 p) 1 m) 2 c) 3 q) 4 r) 5 u ≡ p ∷ m ∷ c ∷ q ∷ r ∷ u ∷ drop 6 l
 six-set [] p m c q r u h = absurd (omega arith)
@@ -72,9 +77,7 @@ unfolding stepBy
 over r a e = simp e
 
 again : (n : ℕ) (r : Round) (a : LineAnswer) → 1 < n → r .phase ≡ phaseOf n → toldStep (stepOf r a) ≡ gives []
-again zero r a h e = absurd (omega arith)
-again (suc zero) r a h e = absurd (omega arith)
-again (suc (suc n)) r a h e = ap toldStep (over r a e)
+again n r a h e = ap toldStep (over r a (e ∙ sym (above-one n h)))
 
 pub step-ended : (run bytes : List ℕ) → 6 ≤ length run → 1 < getD run 0 0 → (gives [] ≡ roundAnswer run bytes) × (run ≡ roundRun run bytes)
 unfolding roundAnswer roundRun roundIn

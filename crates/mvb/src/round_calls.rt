@@ -25,10 +25,12 @@ fn wide(word: u16) -> u32
 fn phase_of(number: u16) -> Phase
     ensures { λ r. ⌜ r ≡ phaseOf number ⌝ }
 {
-    match number {
-        0 => Phase::Asked,
-        1 => Phase::Read,
-        _ => Phase::Ended,
+    if 1 < number {
+        Phase::Ended
+    } else if number == 0 {
+        Phase::Asked
+    } else {
+        Phase::Read
     }
 }
 
