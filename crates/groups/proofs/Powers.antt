@@ -17,8 +17,8 @@ twice m h = rw one-less (omega arith)
 pub doubled : (k : ℕ) → 2 ^ suc k ≡ 2 ^ k + 2 ^ k
 doubled k = omega arith
 
--- 4,096 with its last m bits cut off
-pub cut : (m : ℕ) → m ≤ 12 → 4096 / 2 ^ m ≡ 2 ^ (12 - m)
-cut m h =
-    let e : 12 - m + m ≡ 12 = omega arith in
-    subst (λ (n : ℕ). 2 ^ n / 2 ^ m ≡ 2 ^ (12 - m)) e (ap (λ (n : ℕ). n / 2 ^ m) (pow-add 2 (12 - m) m) ∙ shl-shr (2 ^ (12 - m)) m)
+-- 2^k with its last m bits cut off
+pub cut : (k m : ℕ) → m ≤ k → 2 ^ k / 2 ^ m ≡ 2 ^ (k - m)
+cut k m h =
+    let e : k - m + m ≡ k = omega arith in
+    subst (λ (n : ℕ). 2 ^ n / 2 ^ m ≡ 2 ^ (k - m)) e (ap (λ (n : ℕ). n / 2 ^ m) (pow-add 2 (k - m) m) ∙ shl-shr (2 ^ (k - m)) m)

@@ -3,7 +3,8 @@ ghost use mathlib.Core.Path.{_≡_};
 ghost use Prim.Native.Nat.{_-_, _^_};
 ghost use Rattle.groups.specs.Groups.{isGroup, inGroup};
 
-// 2^(12-M): C is below it, and the upper half of {M, C} is {M-1, C + 2^(12-M)}.
+// 2^(12-M): C is below it, and the upper half of {M, C} is {M-1, C + 2^(12-M)}. Where M is known to be at most 12 the
+// compiler drops the test.
 pub fn bound(m: u16) -> u16
     ensures { λ r. ⌜ r ≡ 2 ^ (12 - m) ⌝ }
 {

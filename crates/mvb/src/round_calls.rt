@@ -22,6 +22,7 @@ fn wide(word: u16) -> u32
     word as u32
 }
 
+// Ended comes first, as mvb_round_answer tests for it: there the compiler drops the test.
 fn phase_of(number: u16) -> Phase
     ensures { λ r. ⌜ r ≡ phaseOf number ⌝ }
 {
@@ -103,6 +104,7 @@ pub extern "C" fn mvb_round_answer(run: &mut [u16], bytes: &[u8]) -> u32
     if 1 < run[0] {
         return END;
     }
+    // Before the round is loaded, so that nothing of it is kept across the call.
     let answer = frames::line_answer(bytes);
     let round = load(run);
     let step = round.answer(answer);

@@ -19,6 +19,6 @@ pub(crate) fn group_word(m: u16, c: u16) -> u16
     if m == 0 {
         SINGLE_EVENT + c
     } else {
-        SINGLE_EVENT - groups::bound(m - 1) + c
+        SINGLE_EVENT - (8192 >> m) + c
     }
 }

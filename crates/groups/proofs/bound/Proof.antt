@@ -9,7 +9,7 @@ use Rattle.groups.proofs.bound.Statement.{statement}
 use Rattle.groups.proofs.bound.Tie as tie
 
 returns : tie.Need-returns
-returns c = cut (c .before .args .m) (omega arith)
+returns c = cut 12 (c .before .args .m) (omega arith)
 
 returns-2 : tie.Need-returns-2
 returns-2 c = let z : 12 - c .before .args .m ≡ 0 = omega arith in rw z refl
