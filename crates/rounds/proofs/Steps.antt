@@ -82,8 +82,8 @@ module _ (m c : ℕ) (a : LineAnswer) (silent : Bool) where
   pub judge-silence : a ≡ Silence → silent ≡ true → Judged
   judge-silence h e = rw (h, e) refl
 
-  pub judge-reply : (w : ℕ) → a ≡ Reply w → goodAnswer m c a ≡ false → silent ≡ false → Judged
-  judge-reply w h g e = let n : isGood m c w ≡ false = ap (goodAnswer m c) (sym h) ∙ g in rw (h, n, e) refl
+  pub judge-reply : (w : ℕ) → a ≡ Reply w → isGood m c w ≡ false → silent ≡ false → Judged
+  judge-reply w h g e = rw (h, g, e) refl
 
   pub judge-collision : a ≡ Collision → silent ≡ false → Judged
   judge-collision h e = rw (h, e) refl
@@ -92,8 +92,8 @@ module _ (m c : ℕ) (k : Counts) (a : LineAnswer) (s : Step) where
   abbrev Heard : Type 0
   Heard = s ≡ heard (judge m c a) m c k
 
-  pub take-good : (w : ℕ) → a ≡ Reply w → goodAnswer m c a ≡ true → s ≡ Next (round Read m c (oneRead k)) w → Heard
-  take-good w h g e = let y : isGood m c w ≡ true = ap (goodAnswer m c) (sym h) ∙ g in rw (h, y) e
+  pub take-good : (w : ℕ) → a ≡ Reply w → isGood m c w ≡ true → s ≡ Next (round Read m c (oneRead k)) w → Heard
+  take-good w h g e = rw (h, g) e
 
   -- no good reply
   module _ (silent : Bool) (j : Judged m c a silent) where

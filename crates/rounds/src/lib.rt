@@ -89,11 +89,10 @@ impl Round {
         ensures { λ r. ⌜ r ≡ heard (judge (self .m) (self .c) answer) (self .m) (self .c) (oneRequest (countsOf self)) ⌝ }
     {
         self.requests = self.requests + 1;
-        let good = self.is_good(answer);
         let silent = match answer {
             LineAnswer::Silence => true,
             LineAnswer::Reply(word) => {
-                if good {
+                if self.is_good(answer) {
                     return self.read(word);
                 }
                 false
@@ -115,10 +114,9 @@ impl Round {
         requires { ⌜ isGroup (self .m) (self .c) ≡ true ⌝ }
         ensures { λ r. ⌜ r ≡ resumed (self .m) (self .c) (countsOf self) ⌝ }
     {
+        let full = 8190 < self.requests;
         match answer {
-            LineAnswer::Silence | LineAnswer::Reply(_) | LineAnswer::Collision => self.next(
-                8190 < self.requests,
-            ),
+            LineAnswer::Silence | LineAnswer::Reply(_) | LineAnswer::Collision => self.next(full),
         }
     }
 

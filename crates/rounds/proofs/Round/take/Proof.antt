@@ -17,26 +17,26 @@ use Rattle.rounds.proofs.Round.take.Statement.{statement}
 use Rattle.rounds.proofs.Round.take.Tie as tie
 
 -- what the match showed
-judged : (c : tie.At-match-came) → Judged (c .before .before .before .args .self .m) (c .before .before .before .args .self .c) (c .before .before .before .args .answer) (c .match .silent)
+judged : (c : tie.At-match-came) → Judged (c .before .before .args .self .m) (c .before .before .args .self .c) (c .before .before .args .answer) (c .match .silent)
 judged c =
-    let a = c .before .before .before .args in
+    let a = c .before .before .args in
     ⊎-elim
     (λ w. judge-silence (a .self .m) (a .self .c) (a .answer) (c .match .silent) (w .1 .given .1) (w .2))
     (⊎-elim
-    (λ w. judge-reply (a .self .m) (a .self .c) (a .answer) (c .match .silent) (w .1 .given .0 .0) (w .1 .given .1) (sym (c .before .is-good .ensures) ∙ w .3 .left) (w .4))
+    (λ w. judge-reply (a .self .m) (a .self .c) (a .answer) (c .match .silent) (w .1 .given .0 .0) (w .1 .given .1) (sym (w .3 .ensures) ∙ w .4 .left) (w .5))
     (λ w. judge-collision (a .self .m) (a .self .c) (a .answer) (c .match .silent) (w .1 .given .1) (w .2)))
     (c .match .came)
 
 returns : tie.Need-returns
 returns c =
-    let b = c .before .before .before in
-    let g = b .before .before in
-    let a = g .before .before .args in
+    let g = c .before .before in
+    let b = g .before .before in
+    let a = b .before .before .before .args in
     take-good (a .self .m) (a .self .c) (oneRequest (countsOf (a .self))) (a .answer) (c .read .result) (b .answer .given .0 .0) (b .answer .given .1) (sym (g .is-good .ensures) ∙ c .before .if1 .taken) (c .read .ensures)
 
 ask-requires : tie.Need-ask-requires
 ask-requires c κs =
-    let b = c .before .before .before .before .before in
+    let b = c .before .before .before .before in
     let a = b .args .self in
     let g = group-is (a .m) (a .c) (b .pre .group) in (
       is-group (a .m - 1) (a .c) (omega arith, lt-of-lt-of-le (g .1) (pow-mono {i = 12 - a .m} {j = 12 - (a .m - 1)} (omega arith))),
@@ -46,12 +46,12 @@ ask-requires c κs =
 returns-2 : tie.Need-returns-2
 returns-2 c =
     let b = c .before .before in
-    let a = b .before .before .before .before .args in
+    let a = b .before .before .before .args in
     take-lower (a .self .m) (a .self .c) (oneRequest (countsOf (a .self))) (a .answer) (c .ask .result) (b .before .match .silent) (judged (b .before)) (b .if2 .taken) (c .before .if3 .taken) (c .ask .ensures)
 
 next-requires : tie.Need-next-requires
 next-requires c κs =
-    let g = c .before .before .before .before .pre .group in
+    let g = c .before .before .before .pre .group in
     ⊎-elim
     (λ w. subst (λ (r : Round). isGroup (r .m) (r .c) ≡ true) (sym (w .3)) g)
     (λ w. subst (λ (r : Round). isGroup (r .m) (r .c) ≡ true) (sym (w .1)) g)
@@ -64,7 +64,7 @@ went-on c r e = subst (λ (q : Round). c .next .result ≡ goOn (q .m) (q .c) (c
 returns-3 : tie.Need-returns-3
 returns-3 c =
     let b = c .before .before in
-    let a = b .before .before .before .args in
+    let a = b .before .before .args in
     ⊎-elim
     (λ w. take-unresolved (a .self .m) (a .self .c) (oneRequest (countsOf (a .self))) (a .answer) (c .next .result) (b .match .silent) (judged b) (w .0 .taken) (w .1 .left) (went-on c _ (w .3)))
     (λ w. take-silence (a .self .m) (a .self .c) (oneRequest (countsOf (a .self))) (a .answer) (c .next .result) (b .match .silent) (judged b) (w .0 .left) (went-on c _ (w .1)))
@@ -75,9 +75,9 @@ take-spec =
     tie.close
     (tie.spec
     (λ c. search needs)
+    (λ c. search needs)
+    (λ c. search needs)
     (λ c κs. search needs)
-    (λ c. search needs)
-    (λ c. search needs)
     (λ c κs. search needs)
     returns
     (λ c. search needs)
