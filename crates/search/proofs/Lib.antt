@@ -1,3 +1,6 @@
 pub mod Apart
-pub mod Tallies
+pub mod Bits
+pub mod Counts
+pub mod Marks
+pub mod Descent
 pub mod Walking

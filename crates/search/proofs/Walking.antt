@@ -1,16 +1,16 @@
 -- Each way through the search of a group, and through the search of the set.
 -- Assumes nothing.
 use mathlib.Core.Path.{_≡_, refl, sym, ap, _∙_, subst}
-use mathlib.Core.Bool.{Bool, true, false}
-use mathlib.Core.List.{List, [], _∷_, _++_, List·Memᴰ, List·Memᴰ·eq-of-singleton}
+use mathlib.Core.Bool.{Bool, true, false, cond}
+use mathlib.Core.List.{List, [], _∷_, _++_, List·Memᴰ}
 use mathlib.Core.List.List·Memᴰ.{List·Memᴰ·head}
 use Prim.Native.Nat.{ℕ, zero, suc, _+_, _-_, _%_, _^_, _≤_, _<_}
 use native.Mathlib.Omega.{arith}
 use native.Mathlib.Nat.{add-zero}
-use lib.Dec.{ltb}
+use lib.Dec.{leb}
 use lib.ListN.{length, length-append, set, drop}
-use lib.Pow.{pow-mono}
-use borrow.Author.Tests.{lt-ltb, le-ltb, eq-eqb, ne-eqb, ltb-true, ltb-false}
+use lib.Pow.{pow-mono, pow-pos}
+use borrow.Author.Tests.{lt-ltb, le-ltb, eq-eqb, ne-eqb, leb-true, leb-false}
 use Rattle.refusals.specs.Told.{Told, gives, refusal}
 use Rattle.frames.specs.declared.LineAnswer.{LineAnswer}
 use Rattle.frames.specs.declared.LineAnswer.the-variants.{Silence, Reply, Collision}
@@ -18,40 +18,69 @@ use Rattle.frames.specs.Words.{wordOf}
 use Rattle.groups.specs.Groups.{isGroup}
 use Rattle.groups.specs.Sets.{devices, howMany}
 use Rattle.groups.specs.Search.{searchOf}
-use Rattle.groups.proofs.Follow.{Group, is-group, group-is, in-lower, in-upper}
-use Rattle.groups.proofs.Members.{member, listed}
+use Rattle.groups.proofs.Follow.{Group, is-group, group-is, c-small, in-lower, in-upper}
+use Rattle.groups.proofs.Powers.{at-most}
+use Rattle.groups.proofs.Members.{member}
 use Rattle.groups.proofs.Counting.{set-count}
 use Rattle.groups.proofs.Costs.{finds, devices-few, requests-few, once, collided, halved}
 use Rattle.search.specs.Searches.{inSet, searched, written}
-use Rattle.search.specs.Inside.{answerTo, Tally, placed}
+use Rattle.search.specs.Inside.{answerTo, markOf, Marked, placed}
+use Rattle.search.proofs.Descent.{none-in}
 
 -- ---- what a group answers
-module _ (S : ℕ → Bool) (m c count last : ℕ) (g : Group m c) (t : Tally S m c 2 count last) where
-  pub answers-none : count ≡ 0 → Silence ≡ answerTo (devices S m c)
-  answers-none e = go (devices S m c) (sym (t .all (omega arith)) ∙ e)
-    where
-      go : (l : List ℕ) → length l ≡ 0 → Silence ≡ answerTo l
-      go [] h = refl
-      go (a ∷ l) h = absurd (omega arith)
+no-devices : (l : List ℕ) → length l < 1 → Silence ≡ answerTo l
+no-devices [] h = refl
+no-devices (a ∷ l) h = absurd (omega arith)
 
-  pub small-one : count ≡ 1 → last < 4096
-  small-one e = t .one (omega arith) .small
+two-devices : (l : List ℕ) → 2 ≤ length l → Collision ≡ answerTo l
+two-devices [] h = absurd (omega arith)
+two-devices (a ∷ []) h = absurd (omega arith)
+two-devices (a ∷ b ∷ l) h = refl
 
-  pub answers-one : count ≡ 1 → Reply (wordOf 12 last) ≡ answerTo (devices S m c)
-  answers-one e = go (devices S m c) (sym (t .all (omega arith)) ∙ e) (listed S m c g last (t .one (omega arith)))
-    where
-      go : (l : List ℕ) → length l ≡ 1 → List·Memᴰ last l → Reply (wordOf 12 last) ≡ answerTo l
-      go [] h d = absurd (omega arith)
-      go (a ∷ []) h d = rw (List·Memᴰ·eq-of-singleton d) refl
-      go (a ∷ b ∷ l) h d = absurd (omega arith)
+single-device : (S : ℕ → Bool) (c : ℕ) → 1 ≤ length (devices S 0 c) → Reply (wordOf 12 c) ≡ answerTo (devices S 0 c)
+unfolding devices
+single-device S c = go (S c)
+  where
+    go : (t : Bool) → 1 ≤ length (cond t (c ∷ []) []) → Reply (wordOf 12 c) ≡ answerTo (cond t (c ∷ []) [])
+    go true k = refl
+    go false k = absurd (omega arith)
 
-  pub answers-several : (count ≡ 0 → ⊥) → (count ≡ 1 → ⊥) → Collision ≡ answerTo (devices S m c)
-  answers-several f h = go (devices S m c) (let k = t .few in omega arith)
-    where
-      go : (l : List ℕ) → 2 ≤ length l → Collision ≡ answerTo l
-      go [] h = absurd (omega arith)
-      go (a ∷ []) h = absurd (omega arith)
-      go (a ∷ b ∷ l) h = refl
+module _ (bytes any two : List ℕ) (m c : ℕ) (q : Marked bytes any two 1) (g : isGroup m c ≡ true) (b : ℕ) (e : b ≡ 2 ^ (12 - m)) where
+  -- its mark lies in the bytes
+  pub mark-in : (b + c < 8192) × ((m ≡ 0 → ⊥) → b + c < 4096)
+  mark-in =
+      let k = group-is m c g in
+      let l = k .1 in
+      (omega (arith, at-most (12 - m) (omega arith)), λ f. let p : 2 ^ (12 - m) ≤ 2 ^ 11 = pow-mono {j = 11} (omega arith) in omega arith)
+
+  pub c-in : c < 4096
+  c-in = c-small m c (group-is m c g .1)
+
+  first : 1 ≤ markOf m c
+  first = omega (arith, pow-pos (12 - m))
+
+  one-said : inSet any (b + c) ≡ leb 1 (length (devices (inSet bytes) m c))
+  one-said = subst (λ (i : ℕ). inSet any (i + c) ≡ leb 1 (length (devices (inSet bytes) m c))) (sym e) (q .ones m c g first)
+
+  two-said : inSet two (b + c) ≡ leb 2 (length (devices (inSet bytes) m c))
+  two-said = subst (λ (i : ℕ). inSet two (i + c) ≡ leb 2 (length (devices (inSet bytes) m c))) (sym e) (q .twos m c g first)
+
+  pub answers-none : inSet any (b + c) ≡ false → Silence ≡ answerTo (devices (inSet bytes) m c)
+  answers-none h = no-devices (devices (inSet bytes) m c) (leb-false _ _ (sym one-said ∙ h))
+
+  pub answers-several : inSet two (b + c) ≡ true → Collision ≡ answerTo (devices (inSet bytes) m c)
+  answers-several h = two-devices (devices (inSet bytes) m c) (leb-true _ _ (sym two-said ∙ h))
+
+  pub answers-alone : inSet any (b + c) ≡ true → inSet two (b + c) ≡ false → length (devices (inSet bytes) m c) ≡ 1
+  answers-alone h k =
+      let n = length (devices (inSet bytes) m c) in
+      omega (arith, leb-true 1 n (sym one-said ∙ h), leb-false 2 n (sym two-said ∙ k))
+
+  pub answers-single : inSet any (b + c) ≡ true → m ≡ 0 → Reply (wordOf 12 c) ≡ answerTo (devices (inSet bytes) m c)
+  answers-single h z = subst (λ (i : ℕ). Reply (wordOf 12 c) ≡ answerTo (devices (inSet bytes) i c)) (sym z) (single-device (inSet bytes) c (subst (λ (i : ℕ). 1 ≤ length (devices (inSet bytes) i c)) z (leb-true _ _ (sym one-said ∙ h))))
+
+pub answers-one : (l : List ℕ) (a : ℕ) → l ≡ a ∷ [] → Reply (wordOf 12 a) ≡ answerTo l
+answers-one l a e = rw e refl
 
 none-there : (l : List ℕ) → answerTo l ≡ Silence → l ≡ []
 none-there [] h = refl
@@ -184,30 +213,37 @@ module _ (bytes out : List ℕ) where
   unfolding searched written
   set-wrong f = (simp (ne-eqb _ _ f), simp (ne-eqb _ _ f))
 
-  module _ (h : length bytes ≡ 512) (k last : ℕ) (t : Tally S₀ 12 0 4096 k last) where
-    -- the count up to 4,096 is the count
-    pub counted : k ≡ howMany S₀ 4096
-    counted = go (ltb k 4096) refl
-      where
-        go : (b : Bool) → ltb k 4096 ≡ b → k ≡ howMany S₀ 4096
-        go true e = t .all (ltb-true _ _ e) ∙ set-count S₀
-        go false e = let l = ltb-false k 4096 e in omega (arith, t .few, t .enough, devices-few S₀ 12 0, set-count S₀)
-
-    pub all-there : k ≡ length (devices S₀ 12 0)
-    all-there = counted ∙ sym (set-count S₀)
-
-    pub set-short : length out < k → Answers (refusal 4) out
+  module _ (h : length bytes ≡ 512) where
+    pub set-short : length out < howMany S₀ 4096 → Answers (refusal 4) out
     unfolding searched written
-    set-short l =
-        let l₂ : length out < howMany S₀ 4096 = omega (arith, counted) in
-        (simp (eq-eqb _ _ h, lt-ltb _ _ l₂), simp (eq-eqb _ _ h, lt-ltb _ _ l₂))
+    set-short l = (simp (eq-eqb _ _ h, lt-ltb _ _ l), simp (eq-eqb _ _ h, lt-ltb _ _ l))
 
-    pub set-done : (q f : ℕ) (out₁ : List ℕ) → k ≤ length out → Walks S₀ 12 0 0 out q f out₁ → Answers (gives (q ∷ k ∷ [])) out₁
-    unfolding searched written
-    set-done q f out₁ l w =
-        let l₂ : howMany S₀ 4096 ≤ length out = omega (arith, counted) in
-        let l₃ : length (devices S₀ 12 0) ≤ length out = omega (arith, all-there) in
-        let o = finds S₀ 12 0 in (
-          simp (eq-eqb _ _ h, le-ltb _ _ l₂) (rw (w .0 .0, o, ← all-there) refl),
-          simp (eq-eqb _ _ h, le-ltb _ _ l₂) (rw o (w .1 ∙ placed-first (devices S₀ 12 0) out l₃)),
-        )
+    module _ (l : howMany S₀ 4096 ≤ length out) where
+      room-there : length (devices S₀ 12 0) ≤ length out
+      room-there = omega (arith, set-count S₀)
+
+      walk-done : (q f : ℕ) (out₁ : List ℕ) → Walks S₀ 12 0 0 out q f out₁ → Answers (gives (q ∷ f ∷ [])) out₁
+      unfolding searched written
+      walk-done q f out₁ w =
+          let o = finds S₀ 12 0 in
+          let n : f ≡ length (devices S₀ 12 0) = let k = w .0 .1 in omega arith in (
+            simp (eq-eqb _ _ h, le-ltb _ _ l) (rw (w .0 .0, o, n) refl),
+            simp (eq-eqb _ _ h, le-ltb _ _ l) (rw o (w .1 ∙ placed-first (devices S₀ 12 0) out room-there)),
+          )
+
+      -- the search of the bytes that were marked
+      module _ (marked : List ℕ) (e : marked ≡ bytes) where
+        pub set-room : 0 + length (devices (inSet marked) 12 0) ≤ length out
+        set-room = subst (λ (k : List ℕ). 0 + length (devices (inSet k) 12 0) ≤ length out) (sym e) (omega (arith, room-there))
+
+        module _ (q f : ℕ) (out₁ : List ℕ) (w : Walks (inSet marked) 12 0 0 out q f out₁) where
+          pub set-done : Answers (gives (q ∷ f ∷ [])) out₁
+          set-done = walk-done q f out₁ (subst (λ (k : List ℕ). Walks (inSet k) 12 0 0 out q f out₁) e w)
+
+          pub reads-fit : f ≤ 4096
+          reads-fit = let k = w .0 .1 in omega (arith, devices-few (inSet marked) 12 0)
+
+    pub set-empty : howMany S₀ 4096 ≡ 0 → Answers (gives (1 ∷ 0 ∷ [])) out
+    set-empty z =
+        let n : length (devices S₀ 12 0) ≡ 0 = set-count S₀ ∙ z in
+        walk-done (omega arith) 1 0 out ((sym (once S₀ 12 0 (omega arith)), omega arith), rw (none-in (devices S₀ 12 0) n) refl)

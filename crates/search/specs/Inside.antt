@@ -1,15 +1,17 @@
 -- What the functions of the search promise to each other. No public promise cites this.
 -- Assumes nothing.
-use Prim.Native.Nat.{ℕ, _+_, _*_, _≤_, _<_}
+use Prim.Native.Nat.{ℕ, _+_, _-_, _*_, _/_, _%_, _^_, _≤_, _<_}
 use mathlib.Core.Path.{_≡_}
-use mathlib.Core.Bool.{Bool, false}
+use mathlib.Core.Bool.{Bool, true}
 use mathlib.Core.List.{List, [], _∷_}
-use mathlib.Core.Logic.{_⊎_}
-use lib.ListN.{length, getD, set}
+use lib.Dec.{leb, eqb}
+use lib.ListN.{length, drop, set}
 use Rattle.frames.specs.declared.LineAnswer.{LineAnswer}
 use Rattle.frames.specs.declared.LineAnswer.the-variants.{Silence, Reply, Collision}
 use Rattle.frames.specs.Words.{wordOf}
-use Rattle.groups.specs.Sets.{Member, devices}
+use Rattle.groups.specs.Groups.{isGroup}
+use Rattle.groups.specs.Sets.{devices}
+use Rattle.search.specs.Searches.{inSet}
 
 -- what these devices answer to one request
 abbrev pub answerTo : List ℕ → LineAnswer
@@ -17,24 +19,43 @@ answerTo [] = Silence
 answerTo (a ∷ []) = Reply (wordOf 12 a)
 answerTo (a ∷ b ∷ l) = Collision
 
--- the devices of {M, C} were counted up to `most`, and `last` is one of those
-pub record Tally (S : ℕ → Bool) (m c most count last : ℕ) : Type 0 where
-  pub few : count ≤ length (devices S m c)
-  pub all : count < most → count ≡ length (devices S m c)
-  pub enough : count ≤ most
-  pub one : 1 ≤ count → Member S m c last
+-- bit k of a byte
+abbrev pub bitOf : ℕ → ℕ → Bool
+bitOf byte k = eqb (byte / 2 ^ k % 2) 1
 
--- so many bytes from a place on are zero
-abbrev pub Blank : List ℕ → ℕ → ℕ → Type 0
-Blank bytes at n = (i : ℕ) → i < n → getD bytes (at + i) 0 ≡ 0
+-- how many bits of a byte are set
+abbrev pub bitsOf : ℕ → ℕ
+bitsOf byte = byte % 2 + byte / 2 % 2 + byte / 4 % 2 + byte / 8 % 2 + (byte / 16 % 2 + byte / 32 % 2 + byte / 64 % 2 + byte / 128 % 2)
 
--- of the addresses from a on, a step apart, none that lies so far on has an event
-abbrev pub Silent : (ℕ → Bool) → ℕ → ℕ → ℕ → Type 0
-Silent S a step far = (i : ℕ) → i * step + step ≤ far → (a + i * step < 4096) × (S (a + i * step) ≡ false)
+-- the mark of {M, C}
+abbrev pub markOf : ℕ → ℕ → ℕ
+markOf m c = 2 ^ (12 - m) + c
 
--- how far: not at all, or a byte or eight of them in small steps
-abbrev pub Far : ℕ → ℕ → Type 0
-Far step far = (far ≡ 0) ⊎ ((step ≤ 8) × ((far ≡ 8) ⊎ (far ≡ 64)))
+-- the marks from one on say whether a group has a device with an event
+abbrev pub One : List ℕ → List ℕ → ℕ → Type 0
+One bytes any from = (m c : ℕ) → isGroup m c ≡ true → from ≤ markOf m c → inSet any (markOf m c) ≡ leb 1 (length (devices (inSet bytes) m c))
+
+-- the marks from one on say whether a group has two such devices, or more
+abbrev pub Two : List ℕ → List ℕ → ℕ → Type 0
+Two bytes two from = (m c : ℕ) → isGroup m c ≡ true → from ≤ markOf m c → inSet two (markOf m c) ≡ leb 2 (length (devices (inSet bytes) m c))
+
+-- both, in 1,024 and 512 bytes, and the set itself is the last 512 of the first
+pub record Marked (bytes any two : List ℕ) (from : ℕ) : Type 0 where
+  pub any-length : length any ≡ 1024
+  pub two-length : length two ≡ 512
+  pub whole : drop 512 any ≡ bytes
+  pub ones : One bytes any from
+  pub twos : Two bytes two from
+
+-- how many bytes the marks of one M take, for M 2 to 9
+abbrev pub Width : ℕ → Type 0
+Width width = (e : ℕ) × (e ≤ 7) × (width ≡ 2 ^ e)
+
+-- the bits of a byte from 1 on: one, then two, then four
+pub record Packed (four two one byte : ℕ) : Type 0 where
+  pub ones : bitOf byte 1 ≡ bitOf one 0
+  pub twos : (c : ℕ) → c < 2 → bitOf byte (2 + c) ≡ bitOf two c
+  pub fours : (c : ℕ) → c < 4 → bitOf byte (4 + c) ≡ bitOf four c
 
 -- l, written into out from place `at` on
 abbrev pub placed : List ℕ → ℕ → List ℕ → List ℕ

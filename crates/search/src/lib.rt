@@ -3,31 +3,21 @@ use frames::LineAnswer;
 use refusals::Refusal;
 ghost use mathlib.Core.Path.{_≡_};
 ghost use mathlib.Core.Bool.{true};
-ghost use Prim.Native.Nat.{_+_, _≤_, _<_};
-ghost use lib.ListN.{length};
+ghost use mathlib.Core.List.{[], _∷_};
+ghost use Prim.Native.Nat.{_+_, _-_, _*_, _^_, _≤_, _<_};
+ghost use lib.Dec.{leb};
+ghost use lib.ListN.{length, drop};
 ghost use Rattle.groups.specs.Groups.{isGroup};
-ghost use Rattle.groups.specs.Sets.{devices as devicesOf};
+ghost use Rattle.groups.specs.Sets.{devices as devicesOf, howMany};
 ghost use Rattle.groups.specs.Search.{searchOf};
 ghost use Rattle.search.specs.Searches.{inSet, searched, written};
-ghost use Rattle.search.specs.Inside.{answerTo, Tally as Tallied, Silent, Far, Blank, placed};
+ghost use Rattle.search.specs.Inside.{answerTo, One, Marked, Width, Packed, bitsOf, placed};
 ghost use Rattle.search.specs.Told.{told};
 
 // Requests and reads; or a refusal.
 pub enum Searched {
     Done(u16, u16),
     Refused(Refusal),
-}
-
-// How many devices were met, and the last of them.
-struct Tally {
-    devices: u16,
-    last: u16,
-}
-
-// How many requests were made, and how many places of the output are filled.
-struct Walked {
-    requests: u16,
-    filled: usize,
 }
 
 // Searches the set: device a has an event where bit a mod 8 of byte a div 8 is set. Writes the devices in read order.
@@ -38,142 +28,226 @@ pub fn search_set(set: &[u8], out: &mut [u16]) -> Searched
     if set.len() != 512 {
         return Searched::Refused(Refusal::WrongLength);
     }
-    let all = tally_up(set, 12, 0, 4096);
-    let k = all.devices;
-    if out.len() < k as usize {
+    if is_empty(set) {
+        return Searched::Done(1, 0);
+    }
+    if !has_room(set, out.len()) {
         return Searched::Refused(Refusal::TooShort);
     }
-    let done = walk(set, out, 0, 12, 0);
-    Searched::Done(done.requests, k)
+    let mut any = [0u8; 1024];
+    let mut two = [0u8; 512];
+    mark(set, &mut any, &mut two);
+    let mut reads = 0;
+    let requests = walk(&any, &two, out, &mut reads, 12, 0);
+    Searched::Done(requests, reads as u16)
 }
 
-// Asks the group {m, c}, and on a collision both halves; writes what it reads from place `at` on.
-fn walk(set: &[u8], out: &mut [u16], at: usize, m: u16, c: u16) -> Walked
-    requires { ⌜ (length (now set) ≡ 512) × (isGroup m c ≡ true) × (at + length (devicesOf (inSet (now set)) m c) ≤ length (now out)) ⌝ }
-    ensures counts { λ r. ⌜ (r .requests ≡ searchOf (inSet (now (set .entry))) m c .requests) × (r .filled ≡ at + length (devicesOf (inSet (now (set .entry))) m c)) ⌝ }
-    ensures output { λ r. ⌜ now (out .exit) ≡ placed (now (out .entry)) at (devicesOf (inSet (now (set .entry))) m c) ⌝ }
+// Whether no device has an event.
+fn is_empty(set: &[u8]) -> bool
+    requires { ⌜ length (now set) ≡ 512 ⌝ }
+    ensures { λ r. ⌜ (r ≡ true → howMany (inSet (now (set .entry))) 4096 ≡ 0) ⌝ }
 {
-    let answer = ask(set, m, c);
+    let mut bits: u8 = 0;
+    let mut i = 0;
+    while i < 512 {
+        bits = bits | set[i];
+        i += 1;
+    }
+    bits == 0
+}
+
+// Whether there is a place for each device that has an event. There are 4,096 devices: so many places need no count.
+fn has_room(set: &[u8], places: usize) -> bool
+    requires { ⌜ length (now set) ≡ 512 ⌝ }
+    ensures { λ r. ⌜ r ≡ leb (howMany (inSet (now (set .entry))) 4096) places ⌝ }
+{
+    if 4096 <= places {
+        return true;
+    }
+    count(set) as usize <= places
+}
+
+// How many devices have an event.
+fn count(set: &[u8]) -> u16
+    requires { ⌜ length (now set) ≡ 512 ⌝ }
+    ensures { λ r. ⌜ r ≡ howMany (inSet (now (set .entry))) 4096 ⌝ }
+{
+    let mut k: u16 = 0;
+    let mut i = 0;
+    while i < 512 {
+        k = k + ones(set[i]);
+        i += 1;
+    }
+    k
+}
+
+fn ones(byte: u8) -> u16
+    ensures { λ r. ⌜ (r ≡ bitsOf byte) × (r ≤ 8) ⌝ }
+{
+    let low = byte % 2 + byte / 2 % 2 + byte / 4 % 2 + byte / 8 % 2;
+    let high = byte / 16 % 2 + byte / 32 % 2 + byte / 64 % 2 + byte / 128 % 2;
+    (low + high) as u16
+}
+
+// Marks all groups: bit 2^(12-M) + C of `any` says whether {M, C} has a device with an event, the same bit of `two` whether it has two.
+fn mark(set: &[u8], any: &mut [u8; 1024], two: &mut [u8; 512])
+    requires { ⌜ (length (now set) ≡ 512) × (length (now any) ≡ 1024) × (length (now two) ≡ 512) ⌝ }
+    ensures { λ r. ⌜ Marked (now (set .entry)) (now (any .exit)) (now (two .exit)) 1 ⌝ }
+{
+    copy_set(set, any);
+    mark_pairs(any, two);
+    mark_layers(any, two);
+    mark_top(any, two);
+}
+
+// M = 0: the set itself, in the last 512 bytes.
+fn copy_set(set: &[u8], any: &mut [u8; 1024])
+    requires { ⌜ (length (now set) ≡ 512) × (length (now any) ≡ 1024) ⌝ }
+    ensures { λ r. ⌜ (drop 512 (now (any .exit)) ≡ now (set .entry)) × (length (now (any .exit)) ≡ 1024) ⌝ }
+{
+    let mut i = 0;
+    while i < 512 {
+        any[512 + i] = set[i];
+        i += 1;
+    }
+}
+
+// M = 1: a device alone is never two.
+fn mark_pairs(any: &mut [u8; 1024], two: &mut [u8; 512])
+    requires { ⌜ (length (now any) ≡ 1024) × (length (now two) ≡ 512) ⌝ }
+    ensures { λ r. ⌜ Marked (drop 512 (now (any .entry))) (now (any .exit)) (now (two .exit)) 2048 ⌝ }
+{
+    let mut i = 0;
+    while i < 256 {
+        let a = any[512 + i];
+        let b = any[768 + i];
+        any[256 + i] = a | b;
+        two[256 + i] = a & b;
+        i += 1;
+    }
+}
+
+// M = 2 to 9.
+fn mark_layers(any: &mut [u8; 1024], two: &mut [u8; 512])
+    requires { ⌜ Marked (drop 512 (now any)) (now any) (now two) 2048 ⌝ }
+    ensures { λ r. ⌜ Marked (drop 512 (now (any .entry))) (now (any .exit)) (now (two .exit)) 8 ⌝ }
+{
+    let mut width = 128;
+    while 0 < width {
+        mark_layer(any, two, width);
+        width = width / 2;
+    }
+}
+
+// The groups of one M, in so many bytes. Those of their lower halves lie in the next as many, then those of the upper halves.
+fn mark_layer(any: &mut [u8; 1024], two: &mut [u8; 512], width: usize)
+    requires { ⌜ Width width × Marked (drop 512 (now any)) (now any) (now two) (16 * width) ⌝ }
+    ensures { λ r. ⌜ Marked (drop 512 (now (any .entry))) (now (any .exit)) (now (two .exit)) (8 * width) ⌝ }
+{
+    let mut i = 0;
+    while i < width {
+        let a = any[2 * width + i];
+        let b = any[3 * width + i];
+        any[width + i] = a | b;
+        two[width + i] = (two[2 * width + i] | two[3 * width + i]) | (a & b);
+        i += 1;
+    }
+}
+
+// M = 10 to 12: both halves lie in one byte.
+fn mark_top(any: &mut [u8; 1024], two: &mut [u8; 512])
+    requires { ⌜ Marked (drop 512 (now any)) (now any) (now two) 8 ⌝ }
+    ensures { λ r. ⌜ Marked (drop 512 (now (any .entry))) (now (any .exit)) (now (two .exit)) 1 ⌝ }
+{
+    let any_8 = any[1];
+    let any_4 = any_8 | (any_8 >> 4);
+    let any_2 = any_4 | (any_4 >> 2);
+    let any_1 = any_2 | (any_2 >> 1);
+    any[0] = packed(any_4, any_2, any_1);
+    let two_8 = two[1];
+    let two_4 = (two_8 | (two_8 >> 4)) | (any_8 & (any_8 >> 4));
+    let two_2 = (two_4 | (two_4 >> 2)) | (any_4 & (any_4 >> 2));
+    let two_1 = (two_2 | (two_2 >> 1)) | (any_2 & (any_2 >> 1));
+    two[0] = packed(two_4, two_2, two_1);
+}
+
+// Four bits, below them two, below them one.
+fn packed(four: u8, two: u8, one: u8) -> u8
+    ensures { λ r. ⌜ Packed four two one r ⌝ }
+{
+    16 * (four % 16) + 4 * (two % 4) + 2 * (one % 2)
+}
+
+// Asks the group {m, c}, and on a collision both halves; writes what it reads from place `at` on. Answers how many requests it made.
+fn walk(any: &[u8; 1024], two: &[u8; 512], out: &mut [u16], at: &mut usize, m: u16, c: u16) -> u16
+    requires { ⌜ Marked (drop 512 (now any)) (now any) (now two) 1 × (isGroup m c ≡ true) × (now at + length (devicesOf (inSet (drop 512 (now any))) m c) ≤ length (now out)) ⌝ }
+    ensures counts { λ r. ⌜ (r ≡ searchOf (inSet (drop 512 (now (any .entry)))) m c .requests) × (now (at .exit) ≡ now (at .entry) + length (devicesOf (inSet (drop 512 (now (any .entry)))) m c)) ⌝ }
+    ensures output { λ r. ⌜ now (out .exit) ≡ placed (now (out .entry)) (now (at .entry)) (devicesOf (inSet (drop 512 (now (any .entry)))) m c) ⌝ }
+{
+    let answer = ask(any, two, m, c);
     match answer {
-        LineAnswer::Silence => Walked {
-            requests: 1,
-            filled: at,
-        },
+        LineAnswer::Silence => 1,
         LineAnswer::Reply(word) => {
-            out[at] = word % 4096;
-            Walked {
-                requests: 1,
-                filled: at + 1,
-            }
+            let i = *at;
+            out[i] = word % 4096;
+            *at = i + 1;
+            1
         }
         LineAnswer::Collision => {
-            let low = walk(set, out, at, m - 1, c);
-            let next = low.filled;
-            let high = walk(set, out, next, m - 1, c + groups::bound(m));
-            Walked {
-                requests: 1 + (low.requests + high.requests),
-                filled: high.filled,
-            }
+            let low = walk(any, two, out, at, m - 1, c);
+            let high = walk(any, two, out, at, m - 1, c + first_mark(m));
+            1 + (low + high)
         }
     }
 }
 
 // What the devices of the group {m, c} answer.
-fn ask(set: &[u8], m: u16, c: u16) -> LineAnswer
-    requires { ⌜ (length (now set) ≡ 512) × (isGroup m c ≡ true) ⌝ }
-    ensures { λ r. ⌜ r ≡ answerTo (devicesOf (inSet (now (set .entry))) m c) ⌝ }
+fn ask(any: &[u8; 1024], two: &[u8; 512], m: u16, c: u16) -> LineAnswer
+    requires { ⌜ Marked (drop 512 (now any)) (now any) (now two) 1 × (isGroup m c ≡ true) ⌝ }
+    ensures { λ r. ⌜ r ≡ answerTo (devicesOf (inSet (drop 512 (now (any .entry)))) m c) ⌝ }
 {
-    let tally = tally_up(set, m, c, 2);
-    let devices = tally.devices;
-    if devices == 0 {
+    let mark = (first_mark(m) + c) as usize;
+    if !has(any, mark) {
         return LineAnswer::Silence;
     }
-    if devices == 1 {
-        return LineAnswer::Reply(49152 + tally.last);
+    if m == 0 {
+        return LineAnswer::Reply(49152 + c);
     }
-    LineAnswer::Collision
+    if has(two, mark) {
+        return LineAnswer::Collision;
+    }
+    LineAnswer::Reply(49152 + lone(any, m, c))
 }
 
-// Counts the devices of the group {m, c} that have an event, and stops once there are `most`.
-fn tally_up(set: &[u8], m: u16, c: u16, most: u16) -> Tally
-    requires { ⌜ (length (now set) ≡ 512) × (isGroup m c ≡ true) × (1 ≤ most) ⌝ }
-    ensures { λ r. ⌜ Tallied (inSet (now (set .entry))) m c most (r .devices) (r .last) ⌝ }
+// The device of a group that has one alone: from half to half.
+fn lone(any: &[u8; 1024], m: u16, c: u16) -> u16
+    requires { ⌜ (length (now any) ≡ 1024) × One (drop 512 (now any)) (now any) 1 × (isGroup m c ≡ true) × (length (devicesOf (inSet (drop 512 (now any))) m c) ≡ 1) ⌝ }
+    ensures { λ r. ⌜ (devicesOf (inSet (drop 512 (now (any .entry)))) m c ≡ r ∷ []) × (r < 4096) ⌝ }
 {
-    let step = groups::bound(m);
-    let mut devices: u16 = 0;
-    let mut last: u16 = 0;
-    let mut a = c;
-    while a < 4096 {
-        let empty = empty_from(set, a, step);
-        if 0 < empty {
-            a = a + empty;
-        } else {
-            if has(set, a) {
-                last = a;
-                devices = devices + 1;
-                if devices == most {
-                    return Tally {
-                        devices: devices,
-                        last: last,
-                    };
-                }
-            }
-            a = a + step;
-        }
+    let mut step = first_mark(m) as usize;
+    let mut at = c as usize;
+    while step < 4096 {
+        let skip = if has(any, 2 * step + at) { 0 } else { step };
+        at = at + skip;
+        step = 2 * step;
     }
-    Tally {
-        devices: devices,
-        last: last,
-    }
+    at as u16
 }
 
-// How many addresses on lie only empty bytes, from a on: 64 or 8, where a is the group's first there, or 0.
-fn empty_from(set: &[u8], a: u16, step: u16) -> u16
-    requires { ⌜ (length (now set) ≡ 512) × (a < 4096) × (1 ≤ step) ⌝ }
-    ensures { λ r. ⌜ (r ≤ 64) × Silent (inSet (now (set .entry))) a step r × Far step r ⌝ }
+// 2^(12-M): the marks of M begin there, and the upper half of {M, C} is {M-1, C + 2^(12-M)}.
+fn first_mark(m: u16) -> u16
+    requires { ⌜ m ≤ 12 ⌝ }
+    ensures { λ r. ⌜ r ≡ 2 ^ (12 - m) ⌝ }
 {
-    if 8 < step {
-        return 0;
-    }
-    if step <= a % 8 {
-        return 0;
-    }
-    let at = (a / 8) as usize;
-    if set[at] != 0 {
-        return 0;
-    }
-    if step <= a % 64 {
-        return 8;
-    }
-    if total(set, at) == 0 { 64 } else { 8 }
+    4096 >> m
 }
 
-fn wide(byte: u8) -> u32
-    ensures { λ r. ⌜ (r ≡ byte) × (r < 256) ⌝ }
+// Whether this bit is set: bit n mod 8 of byte n div 8.
+fn has(bytes: &[u8], n: usize) -> bool
+    requires { ⌜ n < 8 * length (now bytes) ⌝ }
+    ensures { λ r. ⌜ r ≡ inSet (now (bytes .entry)) n ⌝ }
 {
-    byte as u32
-}
-
-// The sum of the eight bytes from a place on.
-fn total(set: &[u8], at: usize) -> u32
-    requires { ⌜ (length (now set) ≡ 512) × (at + 8 ≤ 512) ⌝ }
-    ensures { λ r. ⌜ (r ≡ 0 → Blank (now (set .entry)) at 8) ⌝ }
-{
-    let mut sum: u32 = 0;
-    let mut i = 0;
-    while i < 8 {
-        sum = sum + wide(set[at + i]);
-        i += 1;
-    }
-    sum
-}
-
-// Whether device a has an event.
-fn has(set: &[u8], a: u16) -> bool
-    requires { ⌜ (length (now set) ≡ 512) × (a < 4096) ⌝ }
-    ensures { λ r. ⌜ r ≡ inSet (now (set .entry)) a ⌝ }
-{
-    let i = (a / 8) as usize;
-    let bit = (a % 8) as u8;
-    (set[i] >> bit) % 2 == 1
+    let i = n / 8;
+    let bit = (n % 8) as u8;
+    (bytes[i] >> bit) % 2 == 1
 }

@@ -6,7 +6,7 @@ use native.Mathlib.Omega.{arith}
 use borrow.Author.Needs.{needs}
 use borrow.Fn.Kinds.{In}
 use borrow.Fn.PlainCycle.{Measures, is, falls, and}
-use lib.ListN.{length-set}
+use lib.ListN.{drop, length-set}
 use Rattle.groups.proofs.Follow.{group-is, c-small}
 use Rattle.groups.proofs.Powers.{at-most}
 use Rattle.search.specs.Searches.{inSet}
@@ -14,19 +14,19 @@ use Rattle.search.proofs.Walking.{room-one, no-single, group-low, group
 use Rattle.search.proofs.walk.Reads as walk
 use Rattle.search.proofs.walk.Kinds as walk-kinds
 use Rattle.search.proofs.+walk.Lts-walk as walk-lts
-use Rattle.groups.proofs.bound.Reads as bound-reads
+use Rattle.search.proofs.first_mark.Reads as first-mark-reads
 use Rattle.search.proofs.ask.Reads as ask-reads
 use Rattle.search.proofs.+walk.{statement}
 use Rattle.search.proofs.+walk.Tie.{close}
 
-abbrev μ-walk : Measures 2 walk-kinds.ps ℕ
-μ-walk κs a = a .1 .1 .1 .0
+abbrev μ-walk : Measures 4 walk-kinds.ps ℕ
+μ-walk κs a = a .1 .1 .1 .1 .0
 
-abbrev walk-at : ℕ → In 2 walk-kinds.ps
-walk-at t = and 2 walk-kinds.ps (is 2 walk-kinds.ps μ-walk t) walk.Pre
+abbrev walk-at : ℕ → In 4 walk-kinds.ps
+walk-at t = and 4 walk-kinds.ps (is 4 walk-kinds.ps μ-walk t) walk.Pre
 
-abbrev walk-below : ℕ → In 2 walk-kinds.ps
-walk-below t = and 2 walk-kinds.ps (falls 2 walk-kinds.ps _<_ μ-walk t) walk.Pre
+abbrev walk-below : ℕ → In 4 walk-kinds.ps
+walk-below t = and 4 walk-kinds.ps (falls 4 walk-kinds.ps _<_ μ-walk t) walk.Pre
 
 pub +walk-spec : {M : Type 1} → statement M
 +walk-spec = close μ-walk λ t. walk-lts.spec (
@@ -34,117 +34,117 @@ pub +walk-spec : {M : Type 1} → statement M
   ask-reads.Learnt,
   walk-below t,
   walk.Post,
-  bound-reads.Asked,
-  bound-reads.Learnt,
+  first-mark-reads.Asked,
+  first-mark-reads.Learnt,
 )
     (walk-at t)
     walk.Post
-    (λ c κs. let b = c .before .before in (b .pre .1 .0, b .pre .1 .1))
+    (λ c κs. let b = c .before in (b .pre .1 .0, b .pre .1 .1))
     (λ c. search needs)
     (λ c. search needs)
     (λ c.
     let b = c .before .before .before .before .before .before in
-    let k = c .before .before .before .ask in
-    let w = c .before .answer .given in
-    omega (arith, room-one (inSet (b .args .set .now)) (b .args .m) (b .args .c) (b .args .at) (b .args .out .now) (k .result) (k .ensures) (w .0 .0) (w .1), b .pre .1 .2, b .good .1 .0 .1))
+    let k = c .before .before .before .before .ask in
+    let w = c .before .before .answer .given in
+    omega (arith, room-one (inSet (drop 512 (b .args .any .now))) (b .args .m) (b .args .c) (b .args .at .now) (b .args .out .now) (k .result) (k .ensures) (w .0 .0) (w .1), b .pre .1 .2, b .good .1 .1 .0 .1))
     (λ c.
     let b = c .before .before .before .before .before .before in
-    let k = c .before .before .before .ask in
-    let w = c .before .answer .given in
-    omega (arith, room-one (inSet (b .args .set .now)) (b .args .m) (b .args .c) (b .args .at) (b .args .out .now) (k .result) (k .ensures) (w .0 .0) (w .1), b .pre .1 .2))
+    let k = c .before .before .before .before .ask in
+    let w = c .before .before .answer .given in
+    omega (arith, room-one (inSet (drop 512 (b .args .any .now))) (b .args .m) (b .args .c) (b .args .at .now) (b .args .out .now) (k .result) (k .ensures) (w .0 .0) (w .1), b .pre .1 .2))
     (λ c.
     let b = c .before .before .before .before .before .before in
-    let k = c .before .before .before .ask in
-    let w = c .before .answer .given in
-    omega (arith, room-one (inSet (b .args .set .now)) (b .args .m) (b .args .c) (b .args .at) (b .args .out .now) (k .result) (k .ensures) (w .0 .0) (w .1), b .pre .1 .2, b .good .1 .0 .0))
+    let k = c .before .before .before .before .ask in
+    let w = c .before .before .answer .given in
+    omega (arith, room-one (inSet (drop 512 (b .args .any .now))) (b .args .m) (b .args .c) (b .args .at .now) (b .args .out .now) (k .result) (k .ensures) (w .0 .0) (w .1), b .pre .1 .2, b .good .1 .1 .0 .0))
     (λ c. search needs)
     (λ c.
-    let e = c .before in
+    let e = c .before .before in
     let k = e .before .before .ask in
-    let b = e .before .before .before .before .before in
-    omega (arith, no-single (inSet (b .args .set .now)) (b .args .m) (b .args .c) (b .args .at) (b .args .out .now) (k .result) (k .ensures) (e .enum-told2 .given .1) (b .pre .1 .1) .1))
+    let b = e .before .before .before .before in
+    omega (arith, no-single (inSet (drop 512 (b .args .any .now))) (b .args .m) (b .args .c) (b .args .at .now) (b .args .out .now) (k .result) (k .ensures) (e .enum-told2 .given .1) (b .pre .1 .1) .1))
     (λ c κs.
-    let e = c .before in
+    let e = c .before .before in
     let k = e .before .before .ask in
-    let b = e .before .before .before .before .before in
-    let S = inSet (b .args .set .now) in
-    let n = no-single S (b .args .m) (b .args .c) (b .args .at) (b .args .out .now) (k .result) (k .ensures) (e .enum-told2 .given .1) (b .pre .1 .1) in (
+    let b = e .before .before .before .before in
+    let S = inSet (drop 512 (b .args .any .now)) in
+    let n = no-single S (b .args .m) (b .args .c) (b .args .at .now) (b .args .out .now) (k .result) (k .ensures) (e .enum-told2 .given .1) (b .pre .1 .1) in (
       omega (arith, b .pre .0, n .1),
       (
         b .pre .1 .0,
-        group-low S (b .args .m) (b .args .c) (b .args .at) (b .args .out .now) (k .result) (k .ensures) (e .enum-told2 .given .1) (b .pre .1 .1),
-        room-low S (b .args .m) (b .args .c) (b .args .at) (b .args .out .now) (k .result) (k .ensures) (e .enum-told2 .given .1) (b .pre .1 .1) (b .pre .1 .2),
+        group-low S (b .args .m) (b .args .c) (b .args .at .now) (b .args .out .now) (k .result) (k .ensures) (e .enum-told2 .given .1) (b .pre .1 .1),
+        room-low S (b .args .m) (b .args .c) (b .args .at .now) (b .args .out .now) (k .result) (k .ensures) (e .enum-told2 .given .1) (b .pre .1 .1) (b .pre .1 .2),
       ),
     ))
     (λ c.
-    let e = c .before .before .before .before .before in
+    let e = c .before .before .before .before .before .before .before in
     let k = e .before .before .ask in
-    let b = e .before .before .before .before .before in
-    omega (arith, no-single (inSet (b .args .set .now)) (b .args .m) (b .args .c) (b .args .at) (b .args .out .now) (k .result) (k .ensures) (e .enum-told2 .given .1) (b .pre .1 .1) .1))
-    (λ c κs. search needs)
+    let b = e .before .before .before .before in
+    omega (arith, no-single (inSet (drop 512 (b .args .any .now))) (b .args .m) (b .args .c) (b .args .at .now) (b .args .out .now) (k .result) (k .ensures) (e .enum-told2 .given .1) (b .pre .1 .1) .1))
+    (λ c κs. let b = c .before .before .before .before .before .before .before .before .before .before .before in group-is (b .args .m) (b .args .c) (b .pre .1 .1) .0)
     (λ c.
-    let e = c .before .before .before .before .before .before in
-    let b = e .before .before .before .before .before in
+    let e = c .before .before .before .before .before .before .before .before in
+    let b = e .before .before .before .before in
     let g = group-is (b .args .m) (b .args .c) (b .pre .1 .1) in
-    omega (arith, c .bound .ensures, c-small (b .args .m) (b .args .c) (g .1), at-most (12 - b .args .m) (omega arith)))
+    omega (arith, c .first-mark .ensures, c-small (b .args .m) (b .args .c) (g .1), at-most (12 - b .args .m) (omega arith)))
     (λ c κs.
-    let l = c .before .before .before .before .walk in
-    let e = c .before .before .before .before .before .before in
+    let l = c .before .before .before .before .before .walk in
+    let e = c .before .before .before .before .before .before .before .before in
     let k = e .before .before .ask in
-    let b = e .before .before .before .before .before in
-    let S = inSet (b .args .set .now) in
-    let n = no-single S (b .args .m) (b .args .c) (b .args .at) (b .args .out .now) (k .result) (k .ensures) (e .enum-told2 .given .1) (b .pre .1 .1) in (
+    let b = e .before .before .before .before in
+    let S = inSet (drop 512 (b .args .any .now)) in
+    let n = no-single S (b .args .m) (b .args .c) (b .args .at .now) (b .args .out .now) (k .result) (k .ensures) (e .enum-told2 .given .1) (b .pre .1 .1) in (
       omega (arith, b .pre .0, n .1),
       (
         b .pre .1 .0,
-        group-high S (b .args .m) (b .args .c) (b .args .at) (b .args .out .now) (k .result) (k .ensures) (e .enum-told2 .given .1) (b .pre .1 .1) (c .bound .result) (c .bound .ensures),
-        room-high S (b .args .m) (b .args .c) (b .args .at) (b .args .out .now) (k .result) (k .ensures) (e .enum-told2 .given .1) (b .pre .1 .1) (c .bound .result) (c .bound .ensures)
-            (l .result .filled) (l .last .1 .0) (l .ensures .0 .1) (l .kept .1 .0) (b .pre .1 .2),
+        group-high S (b .args .m) (b .args .c) (b .args .at .now) (b .args .out .now) (k .result) (k .ensures) (e .enum-told2 .given .1) (b .pre .1 .1) (c .first-mark .result) (c .first-mark .ensures),
+        room-high S (b .args .m) (b .args .c) (b .args .at .now) (b .args .out .now) (k .result) (k .ensures) (e .enum-told2 .given .1) (b .pre .1 .1) (c .first-mark .result) (c .first-mark .ensures)
+            (l .last .1 .1 .1 .0) (l .last .1 .1 .0) (l .ensures .0 .1) (l .kept .1 .1 .0) (b .pre .1 .2),
       ),
     ))
     (λ c.
-    let h = c .before .before .before .before .walk2 in
-    let p = c .before .before .before .before .before in
-    let l = p .before .before .before .before .walk in
-    let e = p .before .before .before .before .before .before in
+    let h = c .before .before .walk2 in
+    let p = c .before .before .before in
+    let l = p .before .before .before .before .before .walk in
+    let e = p .before .before .before .before .before .before .before .before in
     let k = e .before .before .ask in
-    let b = e .before .before .before .before .before in
+    let b = e .before .before .before .before in
     omega (
       arith,
-      requests-fit (inSet (b .args .set .now)) (b .args .m) (b .args .c) (b .args .at) (b .args .out .now) (k .result) (k .ensures) (e .enum-told2 .given .1) (b .pre .1 .1)
-          (p .bound .result) (p .bound .ensures) (l .result .requests) (h .result .requests) (l .ensures .0 .0) (h .ensures .0 .0),
+      requests-fit (inSet (drop 512 (b .args .any .now))) (b .args .m) (b .args .c) (b .args .at .now) (b .args .out .now) (k .result) (k .ensures) (e .enum-told2 .given .1) (b .pre .1 .1)
+          (p .first-mark .result) (p .first-mark .ensures) (l .result) (h .result) (l .ensures .0 .0) (h .ensures .0 .0),
     ))
     (λ c.
-    let h = c .before .before .before .before .walk2 in
-    let p = c .before .before .before .before .before in
-    let l = p .before .before .before .before .walk in
-    let e = p .before .before .before .before .before .before in
+    let h = c .before .before .walk2 in
+    let p = c .before .before .before in
+    let l = p .before .before .before .before .before .walk in
+    let e = p .before .before .before .before .before .before .before .before in
     let k = e .before .before .ask in
-    let b = e .before .before .before .before .before in
+    let b = e .before .before .before .before in
     omega (
       arith,
-      requests-fit (inSet (b .args .set .now)) (b .args .m) (b .args .c) (b .args .at) (b .args .out .now) (k .result) (k .ensures) (e .enum-told2 .given .1) (b .pre .1 .1)
-          (p .bound .result) (p .bound .ensures) (l .result .requests) (h .result .requests) (l .ensures .0 .0) (h .ensures .0 .0),
+      requests-fit (inSet (drop 512 (b .args .any .now))) (b .args .m) (b .args .c) (b .args .at .now) (b .args .out .now) (k .result) (k .ensures) (e .enum-told2 .given .1) (b .pre .1 .1)
+          (p .first-mark .result) (p .first-mark .ensures) (l .result) (h .result) (l .ensures .0 .0) (h .ensures .0 .0),
     ))
     (λ c.
-    let b = c .before .before .before .before .before in
+    let b = c .before .before .before .before in
     let k = c .before .before .ask in
-    walk-none (inSet (b .args .set .now)) (b .args .m) (b .args .c) (b .args .at) (b .args .out .now) (k .result) (k .ensures) (c .enum-told .given .1))
+    walk-none (inSet (drop 512 (b .args .any .now))) (b .args .m) (b .args .c) (b .args .at .now) (b .args .out .now) (k .result) (k .ensures) (c .enum-told .given .1))
     (λ c. simp length-set)
     (λ c.
     let b = c .before .before .before .before .before .before in
-    let k = c .before .before .before .ask in
-    let w = c .before .answer .given in
-    walk-one (inSet (b .args .set .now)) (b .args .m) (b .args .c) (b .args .at) (b .args .out .now) (k .result) (k .ensures) (w .0 .0) (w .1) (b .pre .1 .1))
+    let k = c .before .before .before .before .ask in
+    let w = c .before .before .answer .given in
+    walk-one (inSet (drop 512 (b .args .any .now))) (b .args .m) (b .args .c) (b .args .at .now) (b .args .out .now) (k .result) (k .ensures) (w .0 .0) (w .1) (b .pre .1 .1))
     (λ c.
-    let p = c .before .before .before .before in
-    p .walk2 .kept .1 .0 ∙ p .before .before .before .before .before .walk .kept .1 .0)
+    let p = c .before .before in
+    p .walk2 .kept .1 .1 .0 ∙ p .before .before .before .before .before .before .walk .kept .1 .1 .0)
     (λ c.
-    let h = c .before .before .before .before .walk2 in
-    let p = c .before .before .before .before .before in
-    let l = p .before .before .before .before .walk in
-    let e = p .before .before .before .before .before .before in
+    let h = c .before .before .walk2 in
+    let p = c .before .before .before in
+    let l = p .before .before .before .before .before .walk in
+    let e = p .before .before .before .before .before .before .before .before in
     let k = e .before .before .ask in
-    let b = e .before .before .before .before .before in
-    walk-both (inSet (b .args .set .now)) (b .args .m) (b .args .c) (b .args .at) (b .args .out .now) (k .result) (k .ensures) (e .enum-told2 .given .1) (b .pre .1 .1)
-    (p .bound .result) (p .bound .ensures) (l .result .requests) (h .result .requests) (l .result .filled) (h .result .filled) (l .last .1 .0) (h .last .1 .0) (l .ensures) (h .ensures))
+    let b = e .before .before .before .before in
+    walk-both (inSet (drop 512 (b .args .any .now))) (b .args .m) (b .args .c) (b .args .at .now) (b .args .out .now) (k .result) (k .ensures) (e .enum-told2 .given .1) (b .pre .1 .1)
+    (p .first-mark .result) (p .first-mark .ensures) (l .result) (h .result) (l .last .1 .1 .1 .0) (h .last .1 .1 .1 .0) (l .last .1 .1 .0) (h .last .1 .1 .0) (l .ensures) (h .ensures))
