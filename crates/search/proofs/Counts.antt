@@ -1,11 +1,13 @@
 -- Counting the devices of the set, byte by byte.
 -- Assumes nothing.
 use mathlib.Core.Path.{_≡_, refl, sym, ap, _∙_}
-use mathlib.Core.Bool.{Bool, cond}
+use mathlib.Core.Bool.{Bool, true, false, cond, _&&_}
 use mathlib.Core.List.{List}
 use Prim.Native.Nat.{ℕ, zero, suc, _+_, _*_, _/_, _%_, _^_, _≤_, _<_}
 use native.Mathlib.Omega.{arith}
-use lib.Bits.{bitOr, or-add-and, and-le-l, and-le-r}
+use native.Mathlib.Decide.{decLe}
+use borrow.Author.Tests.{eqb-true}
+use lib.Bits.{bitOr, bitAnd, or-add-and, and-le-l, and-le-r}
 use lib.Dec.{eqb, lit≤}
 use lib.ListN.{getD}
 use Rattle.groups.specs.Sets.{howMany}
@@ -69,3 +71,37 @@ none-more bytes i bits h e =
 -- a set has no more devices than there are addresses
 pub few-devices : (bytes : List ℕ) → howMany (inSet bytes) 4096 ≤ 4096
 few-devices bytes = omega (arith, devices-few (inSet bytes) 12 0, set-count (inSet bytes))
+
+-- ---- the bits of a byte, two and two and four and four
+abbrev pub twosOf : ℕ → ℕ
+twosOf byte = bitAnd byte 85 + bitAnd (byte / 2) 85
+
+abbrev pub foursOf : ℕ → ℕ
+foursOf byte = bitAnd (twosOf byte) 51 + bitAnd (twosOf byte / 4) 51
+
+all-below : ℕ → (ℕ → Bool) → Bool
+all-below zero f = true
+all-below (suc n) f = f n && all-below n f
+
+at-below : (n : ℕ) (f : ℕ → Bool) → all-below n f ≡ true → (i : ℕ) → i < n → f i ≡ true
+unfolding all-below
+at-below zero f t i h = absurd (omega arith)
+at-below (suc n) f t i h =
+    elim (decLe n i) [
+      | yes k ↦ let e : i ≡ n = omega arith in rw e (both-true (f n) (all-below n f) t .0)
+      | no k ↦ at-below n f (both-true (f n) (all-below n f) t .1) i (omega arith)
+    ]
+  where
+    both-true : (a b : Bool) → (a && b) ≡ true → (a ≡ true) × (b ≡ true)
+    both-true true b e = (refl, e)
+    both-true false b e = absurd (let z : _≡_ {A = ℕ} 0 1 = cc in omega arith)
+
+-- each byte, computed
+bits-right : all-below 256 (λ (byte : ℕ). eqb (foursOf byte % 16 + foursOf byte / 16) (bitsOf byte)) ≡ true
+unfolding all-below
+bits-right = refl
+
+pub bits-counted : (byte : ℕ) → byte < 256 → (foursOf byte % 16 + foursOf byte / 16 ≡ bitsOf byte) × (foursOf byte % 16 + foursOf byte / 16 ≤ 8)
+bits-counted byte h =
+    let e = eqb-true (foursOf byte % 16 + foursOf byte / 16) (bitsOf byte) (at-below 256 _ bits-right byte h) in
+    (e, omega arith)

@@ -81,12 +81,13 @@ fn count(set: &[u8]) -> u16
     k
 }
 
+// How many bits of a byte are set: in each two bits, then in each four, then in all.
 fn ones(byte: u8) -> u16
     ensures { λ r. ⌜ (r ≡ bitsOf byte) × (r ≤ 8) ⌝ }
 {
-    let low = byte % 2 + byte / 2 % 2 + byte / 4 % 2 + byte / 8 % 2;
-    let high = byte / 16 % 2 + byte / 32 % 2 + byte / 64 % 2 + byte / 128 % 2;
-    (low + high) as u16
+    let twos = (byte & 85) + ((byte / 2) & 85);
+    let fours = (twos & 51) + ((twos / 4) & 51);
+    (fours % 16 + fours / 16) as u16
 }
 
 // Marks all groups: bit 2^(12-M) + C of `any` says whether {M, C} has a device with an event, the same bit of `two` whether it has two.
