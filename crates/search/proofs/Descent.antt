@@ -14,7 +14,7 @@ use Rattle.groups.proofs.Follow.{Group, is-group, in-lower, in-upper, depth}
 use Rattle.groups.proofs.Powers.{doubled}
 use Rattle.groups.proofs.Costs.{halved}
 use Rattle.search.specs.Searches.{inSet}
-use Rattle.search.specs.Inside.{One, markOf}
+use Rattle.search.specs.Inside.{One}
 use Rattle.search.proofs.Marks.{half-sum}
 
 -- a list of length 0

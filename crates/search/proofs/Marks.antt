@@ -7,7 +7,7 @@ use Prim.Native.Nat.{ℕ, zero, suc, _+_, _-_, _*_, _/_, _%_, _^_, _≤_, _<_}
 use native.Mathlib.Omega.{arith}
 use native.Mathlib.Decide.{decLe}
 use lib.Bits.{bitOr, bitAnd}
-use lib.Dec.{eqb, leb, lit≤}
+use lib.Dec.{leb, lit≤}
 use lib.ListN.{length, length-append, length-drop, length-set, getD, drop, set, List·getD-eq-default}
 use lib.Pow.{pow-mono, pow-add, pow-pos}
 use lib.Seq.{getD-drop, getD-set-same, getD-set-other, drop-set-lt, ext-getD}
@@ -18,7 +18,7 @@ use Rattle.groups.proofs.Powers.{doubled}
 use Rattle.groups.proofs.Costs.{halved}
 use Rattle.search.specs.Searches.{inSet}
 use Rattle.search.specs.Inside.{bitOf, markOf, One, Two, Marked, Width, Packed}
-use Rattle.search.proofs.Bits.{or-bit, and-bit, shift-bit, bit-at, one-of, two-of, fold-one, fold-two, no-bit}
+use Rattle.search.proofs.Bits.{or-bit, and-bit, bit-at, one-of, two-of, fold-one, fold-two, no-bit}
 
 -- ---- how many devices the halves have
 module _ (S : ℕ → Bool) where

@@ -1,6 +1,6 @@
 -- What the functions of the search promise to each other. No public promise cites this.
 -- Assumes nothing.
-use Prim.Native.Nat.{ℕ, _+_, _-_, _*_, _/_, _%_, _^_, _≤_, _<_}
+use Prim.Native.Nat.{ℕ, _+_, _-_, _/_, _%_, _^_, _≤_, _<_}
 use mathlib.Core.Path.{_≡_}
 use mathlib.Core.Bool.{Bool, true}
 use mathlib.Core.List.{List, [], _∷_}
@@ -46,6 +46,10 @@ pub record Marked (bytes any two : List ℕ) (from : ℕ) : Type 0 where
   pub whole : drop 512 any ≡ bytes
   pub ones : One bytes any from
   pub twos : Two bytes two from
+
+-- device a has an event: its mark says so
+abbrev pub hasEvent : List ℕ → ℕ → Bool
+hasEvent any = inSet (drop 512 any)
 
 -- how many bytes the marks of one M take, for M 2 to 9
 abbrev pub Width : ℕ → Type 0

@@ -11,7 +11,7 @@ ghost use Rattle.groups.specs.Groups.{isGroup};
 ghost use Rattle.groups.specs.Sets.{devices as devicesOf, howMany};
 ghost use Rattle.groups.specs.Search.{searchOf};
 ghost use Rattle.search.specs.Searches.{inSet, searched, written};
-ghost use Rattle.search.specs.Inside.{answerTo, One, Marked, Width, Packed, bitsOf, placed};
+ghost use Rattle.search.specs.Inside.{answerTo, bitsOf, One, Marked, hasEvent, Width, Packed, placed};
 ghost use Rattle.search.specs.Told.{told};
 
 // Requests and reads; or a refusal.
@@ -113,7 +113,7 @@ fn copy_set(set: &[u8], any: &mut [u8; 1024])
     }
 }
 
-// M = 1: a device alone is never two.
+// M = 1. One device is never two, so that `two` has no marks of M = 0.
 fn mark_pairs(any: &mut [u8; 1024], two: &mut [u8; 512])
     requires { ⌜ (length (now any) ≡ 1024) × (length (now two) ≡ 512) ⌝ }
     ensures { λ r. ⌜ Marked (drop 512 (now (any .entry))) (now (any .exit)) (now (two .exit)) 2048 ⌝ }
@@ -140,7 +140,7 @@ fn mark_layers(any: &mut [u8; 1024], two: &mut [u8; 512])
     }
 }
 
-// The groups of one M, in so many bytes. Those of their lower halves lie in the next as many, then those of the upper halves.
+// The marks of one M, in so many bytes. Those of the lower halves lie in the next as many, those of the upper halves in as many after these.
 fn mark_layer(any: &mut [u8; 1024], two: &mut [u8; 512], width: usize)
     requires { ⌜ Width width × Marked (drop 512 (now any)) (now any) (now two) (16 * width) ⌝ }
     ensures { λ r. ⌜ Marked (drop 512 (now (any .entry))) (now (any .exit)) (now (two .exit)) (8 * width) ⌝ }
@@ -181,9 +181,9 @@ fn packed(four: u8, two: u8, one: u8) -> u8
 
 // Asks the group {m, c}, and on a collision both halves; writes what it reads from place `at` on. Answers how many requests it made.
 fn walk(any: &[u8; 1024], two: &[u8; 512], out: &mut [u16], at: &mut usize, m: u16, c: u16) -> u16
-    requires { ⌜ Marked (drop 512 (now any)) (now any) (now two) 1 × (isGroup m c ≡ true) × (now at + length (devicesOf (inSet (drop 512 (now any))) m c) ≤ length (now out)) ⌝ }
-    ensures counts { λ r. ⌜ (r ≡ searchOf (inSet (drop 512 (now (any .entry)))) m c .requests) × (now (at .exit) ≡ now (at .entry) + length (devicesOf (inSet (drop 512 (now (any .entry)))) m c)) ⌝ }
-    ensures output { λ r. ⌜ now (out .exit) ≡ placed (now (out .entry)) (now (at .entry)) (devicesOf (inSet (drop 512 (now (any .entry)))) m c) ⌝ }
+    requires { ⌜ Marked (drop 512 (now any)) (now any) (now two) 1 × (isGroup m c ≡ true) × (now at + length (devicesOf (hasEvent (now any)) m c) ≤ length (now out)) ⌝ }
+    ensures counts { λ r. ⌜ (r ≡ searchOf (hasEvent (now (any .entry))) m c .requests) × (now (at .exit) ≡ now (at .entry) + length (devicesOf (hasEvent (now (any .entry))) m c)) ⌝ }
+    ensures output { λ r. ⌜ now (out .exit) ≡ placed (now (out .entry)) (now (at .entry)) (devicesOf (hasEvent (now (any .entry))) m c) ⌝ }
 {
     let answer = ask(any, two, m, c);
     match answer {
@@ -205,7 +205,7 @@ fn walk(any: &[u8; 1024], two: &[u8; 512], out: &mut [u16], at: &mut usize, m: u
 // What the devices of the group {m, c} answer.
 fn ask(any: &[u8; 1024], two: &[u8; 512], m: u16, c: u16) -> LineAnswer
     requires { ⌜ Marked (drop 512 (now any)) (now any) (now two) 1 × (isGroup m c ≡ true) ⌝ }
-    ensures { λ r. ⌜ r ≡ answerTo (devicesOf (inSet (drop 512 (now (any .entry)))) m c) ⌝ }
+    ensures { λ r. ⌜ r ≡ answerTo (devicesOf (hasEvent (now (any .entry))) m c) ⌝ }
 {
     let mark = (first_mark(m) + c) as usize;
     if !has(any, mark) {
@@ -222,8 +222,8 @@ fn ask(any: &[u8; 1024], two: &[u8; 512], m: u16, c: u16) -> LineAnswer
 
 // The device of a group that has one alone: from half to half.
 fn lone(any: &[u8; 1024], m: u16, c: u16) -> u16
-    requires { ⌜ (length (now any) ≡ 1024) × One (drop 512 (now any)) (now any) 1 × (isGroup m c ≡ true) × (length (devicesOf (inSet (drop 512 (now any))) m c) ≡ 1) ⌝ }
-    ensures { λ r. ⌜ (devicesOf (inSet (drop 512 (now (any .entry)))) m c ≡ r ∷ []) × (r < 4096) ⌝ }
+    requires { ⌜ (length (now any) ≡ 1024) × One (drop 512 (now any)) (now any) 1 × (isGroup m c ≡ true) × (length (devicesOf (hasEvent (now any)) m c) ≡ 1) ⌝ }
+    ensures { λ r. ⌜ (devicesOf (hasEvent (now (any .entry))) m c ≡ r ∷ []) × (r < 4096) ⌝ }
 {
     let mut step = first_mark(m) as usize;
     let mut at = c as usize;

@@ -1,13 +1,11 @@
 -- `search::ask` meets its contract: none, one alone, two.
 -- Assumes nothing.
-use mathlib.Core.Path.{_≡_, sym, _∙_}
-use mathlib.Core.Bool.{true, false}
+use mathlib.Core.Path.{sym, _∙_}
 use native.Mathlib.Omega.{arith}
 use borrow.Author.Needs.{needs}
 use borrow.Author.Tests.{not-true, not-false}
 use lib.ListN.{drop}
 use Rattle.groups.proofs.Follow.{group-is}
-use Rattle.search.specs.Searches.{inSet}
 use Rattle.search.proofs.Walking.{mark-in, c-in, answers-none, answers-single, answers-several, answers-alone, answers-one}
 use Rattle.search.proofs.ask.Statement.{statement}
 use Rattle.search.proofs.ask.Tie as tie

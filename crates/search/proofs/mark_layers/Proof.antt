@@ -3,7 +3,6 @@
 use mathlib.Core.Path.{_≡_, refl, subst}
 use Prim.Native.Nat.{ℕ}
 use native.Mathlib.Omega.{arith}
-use borrow.Author.Needs.{needs}
 use lib.Dec.{lit≤}
 use lib.ListN.{drop}
 use Rattle.search.proofs.Marks.{Down, width-is, down-asks, down-more, down-done}
