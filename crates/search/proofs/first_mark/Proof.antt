@@ -6,4 +6,4 @@ use Rattle.search.proofs.first_mark.Statement.{statement}
 use Rattle.search.proofs.first_mark.Tie as tie
 
 pub first-mark-spec : {M : Type 1} → statement M
-first-mark-spec = tie.close (tie.spec (λ c. search needs) (λ c. cut (c .args .m) (c .pre)))
+first-mark-spec = tie.close (tie.spec (λ c. search needs) (λ c. cut 12 (c .args .m) (c .pre)))
