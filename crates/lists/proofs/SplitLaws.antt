@@ -11,7 +11,7 @@ use borrow.Author.Tests.{leb-true, leb-false, eq-eqb, ne-eqb}
 use lib.Dec.{leb}
 use lib.ListN.{length, getD, take, drop, set, length-set, length-append, length-take, List·getD-append}
 use lib.Pow.{pow-lt, pow-pos}
-use lib.Seq.{getD-set-same, getD-set-other, getD-at, take-add, take-all, drop-drop}
+use lib.Seq.{getD-set-same, getD-set-other, set-getD, getD-at, take-add, take-all, drop-drop}
 use Rattle.refusals.specs.declared.Refusal.{Refusal}
 use Rattle.refusals.specs.Refusals.{numberOf}
 use Rattle.numbers.specs.declared.Number.{Number}
@@ -23,9 +23,15 @@ use Rattle.lists.specs.Values.{Cycle}
 use Rattle.lists.specs.Rules.{splitRule, rules}
 use Rattle.lists.specs.Reading.{Read, denied, took, then, when, within, splitsIn, summedIn, splitIn}
 use Rattle.lists.specs.Sends.{cutBy, subcycles, subcycle}
-use Rattle.lists.specs.Inside.{readOf, Tells, weigh, Weights, Sums, Rising, Most, Cut, Added}
+use Rattle.lists.specs.Inside.{readOf, Tells, weigh, Weights, Sums, Rising, Most, weighed, Weighable, Cut, Added}
 use Rattle.lists.proofs.HeadLaws.{in-range}
 use Rattle.lists.proofs.WordLaws.{tells-no, tells-yes, told-no, told-yes, weigh-append}
+
+-- a Subcycle with no words
+pub none-added : (sums : List ℕ) (count done more : ℕ) (load : List ℕ) (i : ℕ) → more ≡ 0 → load ≡ set load i (weighed sums count done more (getD load i 0))
+none-added sums count done more load i z =
+    let e : done + more ≡ done = omega arith in
+    sym (set-getD load i 0) ∙ ap (set load i) (rw e (omega arith))
 
 -- ---- the words cut by split numbers
 pub sum-snoc : (zs : List ℕ) (z : ℕ) → sum (zs ++ z ∷ []) ≡ sum zs + z
@@ -202,24 +208,26 @@ module _ (s : List ℕ) (at count : ℕ) (sums load₀ : List ℕ) where
                   left = sym (n ∙ rw q);
                 }
 
-        module _ (from to : ℕ) (f : from ≡ min done count) (g : to ≡ min (done + z) count) where
-          pub from-there : from < length sums
-          from-there = omega (arith, inv .rising .few, inv .places)
+        pub weighable : Weighable sums count done z load i
+        weighable =
+            record {
+              here = h;
+              far = done-fits;
+              first = omega (arith, inv .rising .few, inv .places);
+              last = omega (arith, inv .rising .few, inv .places);
+              long = inv .places;
+              rise = inv .rising .rise (min done count) (min (done + z) count) (omega arith) (omega arith);
+              fits =
+                  (let a : getD load i 0 ≡ getD load₀ i 0 = inv .rest i (omega arith) in
+                  let b : getD load₀ i 0 ≤ 358517248 * 10 = inv .most i (omega (arith, inv .long)) in
+                  omega (arith, inv .rising .most (min (done + z) count) (omega arith)));
+            }
 
-          pub to-there : to < length sums
-          to-there = omega (arith, inv .rising .few, inv .places)
+        pub shorter : {load' : List ℕ} → load' ≡ set load i (weighed sums count done z (getD load i 0)) → length load' - (i + 1) < length load - i
+        shorter e = omega (arith, ap length e ∙ length-set load i (weighed sums count done z (getD load i 0)))
 
-          pub no-less : getD sums from 0 ≤ getD sums to 0
-          no-less = inv .rising .rise from to (omega arith) (omega arith)
-
-          pub load-fits : getD load i 0 + (getD sums to 0 - getD sums from 0) < 4294967296
-          load-fits =
-              let a : getD load i 0 ≡ getD load₀ i 0 = inv .rest i (omega arith) in
-              let b : getD load₀ i 0 ≤ 358517248 * 10 = inv .most i (omega (arith, inv .long)) in
-              omega (arith, inv .rising .most to (omega arith))
-
-          pub more : Inv s at count sums load₀ (set load i (getD load i 0 + (getD sums to 0 - getD sums from 0))) next (i + 1) (done + z)
-          more = rw (f, g) (one-more (getD load i 0 + (getD sums (min (done + z) count) 0 - getD sums (min done count) 0)) refl)
+        pub more : {load' : List ℕ} → load' ≡ set load i (weighed sums count done z (getD load i 0)) → Inv s at count sums load₀ load' next (i + 1) (done + z)
+        more e = rw e (one-more (weighed sums count done z (getD load i 0)) refl)
 
 -- ---- a cycle's split numbers, where it has any
 many : (n : ℕ) → 2 ^ suc n ≡ 1 → ⊥

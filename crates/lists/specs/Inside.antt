@@ -1,6 +1,6 @@
 -- What the functions inside this crate promise each other: how places, marks and loads stand for what was read.
 -- Assumes nothing.
-use Prim.Native.Nat.{ℕ, _+_, _*_, _^_, _/_, _%_, _≤_, _<_}
+use Prim.Native.Nat.{ℕ, _+_, _-_, _*_, _^_, _/_, _%_, _≤_, _<_, min}
 use mathlib.Core.Path.{_≡_}
 use mathlib.Core.List.{List, [], _∷_, _++_}
 use mathlib.Core.Bool.{Bool, true, false, _||_}
@@ -114,6 +114,20 @@ pub record Rising (count : ℕ) (sums : List ℕ) : Type 0 where
 -- after n cycles no Basic Period has more than this
 abbrev pub Most : ℕ → List ℕ → Type 0
 Most n load = (j : ℕ) → j < length load → getD load j 0 ≤ 358517248 * n
+
+-- the load of a Subcycle with the weight of so many more words than are done, of those that there are
+abbrev pub weighed : List ℕ → ℕ → ℕ → ℕ → ℕ → ℕ
+weighed sums count done more before = before + (getD sums (min (done + more) count) 0 - getD sums (min done count) 0)
+
+-- it can be added to its place
+pub record Weighable (sums : List ℕ) (count done more : ℕ) (load : List ℕ) (i : ℕ) : Type 0 where
+  pub here : i < length load
+  pub far : done + more < 18446744073709551616
+  pub first : min done count < length sums
+  pub last : min (done + more) count < length sums
+  pub long : length sums ≡ 257
+  pub rise : getD sums (min done count) 0 ≤ getD sums (min (done + more) count) 0
+  pub fits : weighed sums count done more (getD load i 0) < 4294967296
 
 -- the weight of each part of the words, cut by the split numbers, is added to its place
 abbrev pub Cut : List ℕ → List ℕ → List ℕ → List ℕ → List ℕ → Type 0

@@ -6,15 +6,28 @@ use refusals::Refusal;
 ghost use mathlib.Core.Path.{_≡_};
 ghost use mathlib.Core.List.{List, []};
 ghost use Prim.Native.Nat.{ℕ, _^_, _≤_, min};
-ghost use lib.ListN.{length, drop};
+ghost use lib.ListN.{length, getD, drop, set};
 ghost use Rattle.lists.specs.Rules.{rules};
 ghost use Rattle.lists.specs.Reading.{splitIn, summedIn};
-ghost use Rattle.lists.specs.Inside.{Tells, Sums, Rising, Most, Cut, Added};
+ghost use Rattle.lists.specs.Inside.{Tells, Sums, Rising, Most, Weighable, weighed, Cut, Added};
 
 fn least(a: usize, b: usize) -> usize
     ensures { λ r. ⌜ r ≡ min a b ⌝ }
 {
     if a < b { a } else { b }
+}
+
+// Adds the weight of the words of a Subcycle to its place: so many more than are done. Most Subcycles have none.
+fn add_weight(sums: &[u32], count: usize, done: usize, more: usize, load: &mut [u32], i: usize)
+    requires { ⌜ Weighable (now sums) count done more (now load) i ⌝ }
+    ensures { λ _. ⌜ now (load .exit) ≡ set (now (load .entry)) i (weighed (now (sums .entry)) count done more (getD (now (load .entry)) i 0)) ⌝ }
+{
+    if more == 0 {
+        return;
+    }
+    let from = least(done, count);
+    let to = least(done + more, count);
+    load[i] = load[i] + (sums[to] - sums[from]);
 }
 
 // As many split numbers as load has places; each adds the weight of its words to its place.
@@ -32,10 +45,9 @@ fn read_splits(s: &[u8], at: usize, count: usize, sums: &[u32], load: &mut [u32]
         match r {
             Number::Refused(n) => return Part::Refused(n),
             Number::Value(z, next) => {
-                let from = least(done, count);
-                done += z as usize;
-                let to = least(done, count);
-                load[i] = load[i] + (sums[to] - sums[from]);
+                let more = z as usize;
+                add_weight(sums, count, done, more, load, i);
+                done += more;
                 p = next;
             }
         }
