@@ -11,7 +11,7 @@ use lib.ListN.{length, getD, take, drop, set}
 use lib.Seq.{take-all}
 use Rattle.checks.specs.Check.{checkOf}
 use Rattle.frames.specs.Words.{wordBytes}
-use Rattle.frames.specs.Blocks.{framed, rightBlocks}
+use Rattle.frames.specs.Blocks.{framed, dataIn, rightBlocks}
 
 -- the bytes of a word are the first two of those it was read from
 front : (w : List ℕ) (word : ℕ) → 2 ≤ length w → word ≡ getD w 0 0 * 256 + getD w 1 0 → getD w 1 0 < 256 → wordBytes word ≡ take 2 w
@@ -33,6 +33,13 @@ module _ (w : List ℕ) (word check : ℕ) (long : length w ≡ 3) (e : word ≡
 
   pub word-wrong : (check ≡ getD w 2 0 → ⊥) → 0 ≡ rightBlocks 1 2 w
   word-wrong h = sym (ap (λ t. cond t 1 0) (ne-eqb (checkOf (take 2 w)) (getD w 2 0) (λ z. h (check-is ∙ z))))
+
+pub word-copied : (w out : List ℕ) → 3 ≤ length w → 2 ≤ length out → set (set out 0 (getD w 0 0)) 1 (getD w 1 0) ≡ dataIn 1 2 w ++ drop 2 out
+word-copied [] out h g = absurd (omega arith)
+word-copied (a ∷ []) out h g = absurd (omega arith)
+word-copied (a ∷ b ∷ w) [] h g = absurd (omega arith)
+word-copied (a ∷ b ∷ w) (x ∷ []) h g = absurd (omega arith)
+word-copied (a ∷ b ∷ w) (x ∷ y ∷ out) h g = refl
 
 -- ---- written
 

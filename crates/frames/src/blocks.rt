@@ -52,11 +52,13 @@ pub(crate) fn right_word(frame: &[u8]) -> usize
 
 // The data of so many blocks of `size` bytes, at the start of `out`.
 pub(crate) fn copy_blocks(frame: &[u8], count: usize, size: usize, out: &mut [u8])
-    requires { ⌜ (count * (size + 1) ≤ length (now frame)) × (count * size ≤ length (now out)) ⌝ }
+    requires { ⌜ (count * (size + 1) ≤ length (now frame)) × (count * size ≤ length (now out)) × (size ≡ 2 → count ≡ 1) ⌝ }
     ensures { λ _. ⌜ now (out .exit) ≡ dataIn count size (now (frame .entry)) ++ drop (count * size) (now (out .entry)) ⌝ }
 {
     if size == 8 {
         copy_run(frame, count, 8, out);
+    } else if size == 2 {
+        copy_word(frame, out);
     } else {
         copy_run(frame, count, size, out);
     }
@@ -76,6 +78,15 @@ fn copy_run(frame: &[u8], count: usize, size: usize, out: &mut [u8])
         to += size;
         left -= 1;
     }
+}
+
+// The data of a word's frame.
+fn copy_word(frame: &[u8], out: &mut [u8])
+    requires { ⌜ (3 ≤ length (now frame)) × (2 ≤ length (now out)) ⌝ }
+    ensures { λ _. ⌜ now (out .exit) ≡ dataIn 1 2 (now (frame .entry)) ++ drop 2 (now (out .entry)) ⌝ }
+{
+    out[0] = frame[0];
+    out[1] = frame[1];
 }
 
 // The frame of so many blocks of `size` bytes of data, at the start of `out`.

@@ -22,7 +22,7 @@ copy-blocks-requires : tie.Need-copy-blocks-requires
 copy-blocks-requires c κs =
     let long : tie.Else2 = c .before .before .before .before .before .before in
     let shape = long .before .before .before .before .shape-of .ensures in
-    (le-of-eq (in-frame _ shape ∙ sym (long .if2 .left)), data-within _ shape (c .before .if4 .left))
+    (le-of-eq (in-frame _ shape ∙ sym (long .if2 .left)), data-within _ shape (c .before .if4 .left), one-word _ shape)
 
 returns-5 : tie.Need-returns-5
 returns-5 c =
