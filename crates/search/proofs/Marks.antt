@@ -216,6 +216,10 @@ only-single : (m c : ℕ) → Group m c → 4096 ≤ markOf m c → m ≡ 0
 only-single zero c g h = refl
 only-single (suc m) c g h = absurd (let b = g .1 in let p : 2 ^ suc (12 - suc m) ≤ 2 ^ 12 = pow-mono {j = 12} (let a = g .0 in omega arith) in omega (arith, doubled (12 - suc m)))
 
+-- no mark is set behind 512 bytes
+pub beyond : (l : List ℕ) (i : ℕ) → length l ≡ 512 → 4096 ≤ i → inSet l i ≡ false
+beyond l i e h = no-bit _ (i % 8) (List·getD-eq-default l 0 {n = i / 8} (omega arith))
+
 pub set-marked : (any two : List ℕ) → length any ≡ 1024 → length two ≡ 512 → Marked (drop 512 any) any two 4096
 set-marked any two a t = record {
   any-length = a;
@@ -229,7 +233,7 @@ set-marked any two a t = record {
     one c = bit-at any 512 c ∙ ap (λ (x : ℕ). bitOf x (c % 8)) (sym (getD-drop 512 any (c / 8) 0)) ∙ sym (single-one (inSet (drop 512 any)) c)
 
     none : (c : ℕ) → inSet two (4096 + c) ≡ leb 2 (length (devices (inSet (drop 512 any)) 0 c))
-    none c = no-bit _ ((4096 + c) % 8) (List·getD-eq-default two 0 {n = (4096 + c) / 8} (omega arith)) ∙ sym (single-two (inSet (drop 512 any)) c)
+    none c = beyond two (4096 + c) t (omega arith) ∙ sym (single-two (inSet (drop 512 any)) c)
 
 -- a pair of devices is two where both have an event
 pub pair-done : (any₀ two₀ any two : List ℕ) (i : ℕ) → Layered any₀ two₀ any two 256 i → i < 256 →

@@ -1,7 +1,7 @@
 -- Each way through the search of a group, and through the search of the set.
 -- Assumes nothing.
 use mathlib.Core.Path.{_≡_, refl, sym, ap, _∙_, subst}
-use mathlib.Core.Bool.{Bool, true, false, cond}
+use mathlib.Core.Bool.{Bool, true, false}
 use mathlib.Core.List.{List, [], _∷_, _++_, List·Memᴰ}
 use mathlib.Core.List.List·Memᴰ.{List·Memᴰ·head}
 use Prim.Native.Nat.{ℕ, zero, suc, _+_, _-_, _%_, _^_, _≤_, _<_}
@@ -18,7 +18,7 @@ use Rattle.frames.specs.Words.{wordOf}
 use Rattle.groups.specs.Groups.{isGroup}
 use Rattle.groups.specs.Sets.{devices, howMany}
 use Rattle.groups.specs.Search.{searchOf}
-use Rattle.groups.proofs.Follow.{Group, is-group, group-is, c-small, in-lower, in-upper}
+use Rattle.groups.proofs.Follow.{Group, is-group, group-is, in-lower, in-upper}
 use Rattle.groups.proofs.Powers.{at-most}
 use Rattle.groups.proofs.Members.{member}
 use Rattle.groups.proofs.Counting.{set-count}
@@ -37,24 +37,10 @@ two-devices [] h = absurd (omega arith)
 two-devices (a ∷ []) h = absurd (omega arith)
 two-devices (a ∷ b ∷ l) h = refl
 
-single-device : (S : ℕ → Bool) (c : ℕ) → 1 ≤ length (devices S 0 c) → Reply (wordOf 12 c) ≡ answerTo (devices S 0 c)
-unfolding devices
-single-device S c = go (S c)
-  where
-    go : (t : Bool) → 1 ≤ length (cond t (c ∷ []) []) → Reply (wordOf 12 c) ≡ answerTo (cond t (c ∷ []) [])
-    go true k = refl
-    go false k = absurd (omega arith)
-
 module _ (bytes any two : List ℕ) (m c : ℕ) (q : Marked bytes any two 1) (g : isGroup m c ≡ true) (b : ℕ) (e : b ≡ 2 ^ (12 - m)) where
   -- its mark lies in the bytes
-  pub mark-in : (b + c < 8192) × ((m ≡ 0 → ⊥) → b + c < 4096)
-  mark-in =
-      let k = group-is m c g in
-      let l = k .1 in
-      (omega (arith, at-most (12 - m) (omega arith)), λ f. let p : 2 ^ (12 - m) ≤ 2 ^ 11 = pow-mono {j = 11} (omega arith) in omega arith)
-
-  pub c-in : c < 4096
-  c-in = c-small m c (group-is m c g .1)
+  pub mark-in : b + c < 8192
+  mark-in = let k = group-is m c g .1 in omega (arith, at-most (12 - m) (omega arith))
 
   first : 1 ≤ markOf m c
   first = omega (arith, pow-pos (12 - m))
@@ -75,9 +61,6 @@ module _ (bytes any two : List ℕ) (m c : ℕ) (q : Marked bytes any two 1) (g 
   answers-alone h k =
       let n = length (devices (inSet bytes) m c) in
       omega (arith, leb-true 1 n (sym one-said ∙ h), leb-false 2 n (sym two-said ∙ k))
-
-  pub answers-single : inSet any (b + c) ≡ true → m ≡ 0 → Reply (wordOf 12 c) ≡ answerTo (devices (inSet bytes) m c)
-  answers-single h z = subst (λ (i : ℕ). Reply (wordOf 12 c) ≡ answerTo (devices (inSet bytes) i c)) (sym z) (single-device (inSet bytes) c (subst (λ (i : ℕ). 1 ≤ length (devices (inSet bytes) i c)) z (leb-true _ _ (sym one-said ∙ h))))
 
 pub answers-one : (l : List ℕ) (a : ℕ) → l ≡ a ∷ [] → Reply (wordOf 12 a) ≡ answerTo l
 answers-one l a e = rw e refl

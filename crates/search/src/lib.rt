@@ -180,7 +180,14 @@ fn packed(four: u8, two: u8, one: u8) -> u8
 }
 
 // Asks the group {m, c}, and on a collision both halves; writes what it reads from place `at` on. Answers how many requests it made.
-fn walk(any: &[u8; 1024], two: &[u8; 512], out: &mut [u16], at: &mut usize, m: u16, c: u16) -> u16
+fn walk(
+    any: &[u8; 1024],
+    two: &[u8; 512],
+    out: &mut [u16],
+    at: &mut usize,
+    m: usize,
+    c: usize,
+) -> u16
     requires { ⌜ Marked (drop 512 (now any)) (now any) (now two) 1 × (isGroup m c ≡ true) × (now at + length (devicesOf (hasEvent (now any)) m c) ≤ length (now out)) ⌝ }
     ensures counts { λ r. ⌜ (r ≡ searchOf (hasEvent (now (any .entry))) m c .requests) × (now (at .exit) ≡ now (at .entry) + length (devicesOf (hasEvent (now (any .entry))) m c)) ⌝ }
     ensures output { λ r. ⌜ now (out .exit) ≡ placed (now (out .entry)) (now (at .entry)) (devicesOf (hasEvent (now (any .entry))) m c) ⌝ }
@@ -203,30 +210,38 @@ fn walk(any: &[u8; 1024], two: &[u8; 512], out: &mut [u16], at: &mut usize, m: u
 }
 
 // What the devices of the group {m, c} answer.
-fn ask(any: &[u8; 1024], two: &[u8; 512], m: u16, c: u16) -> LineAnswer
+fn ask(any: &[u8; 1024], two: &[u8; 512], m: usize, c: usize) -> LineAnswer
     requires { ⌜ Marked (drop 512 (now any)) (now any) (now two) 1 × (isGroup m c ≡ true) ⌝ }
     ensures { λ r. ⌜ r ≡ answerTo (devicesOf (hasEvent (now (any .entry))) m c) ⌝ }
 {
-    let mark = (first_mark(m) + c) as usize;
+    let mark = first_mark(m) + c;
+    if has_two(two, mark) {
+        return LineAnswer::Collision;
+    }
     if !has(any, mark) {
         return LineAnswer::Silence;
-    }
-    if m == 0 {
-        return LineAnswer::Reply(49152 + c);
-    }
-    if has(two, mark) {
-        return LineAnswer::Collision;
     }
     LineAnswer::Reply(49152 + lone(any, m, c))
 }
 
+// Whether a group has two devices with an event. One device, M = 0, has no mark.
+fn has_two(two: &[u8; 512], mark: usize) -> bool
+    requires { ⌜ length (now two) ≡ 512 ⌝ }
+    ensures { λ r. ⌜ r ≡ inSet (now (two .entry)) mark ⌝ }
+{
+    if 4096 <= mark {
+        return false;
+    }
+    has(two, mark)
+}
+
 // The device of a group that has one alone: from half to half.
-fn lone(any: &[u8; 1024], m: u16, c: u16) -> u16
+fn lone(any: &[u8; 1024], m: usize, c: usize) -> u16
     requires { ⌜ (length (now any) ≡ 1024) × One (drop 512 (now any)) (now any) 1 × (isGroup m c ≡ true) × (length (devicesOf (hasEvent (now any)) m c) ≡ 1) ⌝ }
     ensures { λ r. ⌜ (devicesOf (hasEvent (now (any .entry))) m c ≡ r ∷ []) × (r < 4096) ⌝ }
 {
-    let mut step = first_mark(m) as usize;
-    let mut at = c as usize;
+    let mut step = first_mark(m);
+    let mut at = c;
     while step < 4096 {
         let skip = if has(any, 2 * step + at) { 0 } else { step };
         at = at + skip;
@@ -236,7 +251,7 @@ fn lone(any: &[u8; 1024], m: u16, c: u16) -> u16
 }
 
 // 2^(12-M): the marks of M begin there, and the upper half of {M, C} is {M-1, C + 2^(12-M)}.
-fn first_mark(m: u16) -> u16
+fn first_mark(m: usize) -> usize
     requires { ⌜ m ≤ 12 ⌝ }
     ensures { λ r. ⌜ r ≡ 2 ^ (12 - m) ⌝ }
 {

@@ -67,7 +67,6 @@ lone-spec =
     Inv-loop
     μ-loop
     (λ c κs. group-is (c .args .m) (c .args .c) (c .pre .2) .0)
-    (λ c. search needs)
     (λ c. at-first (inSet (drop 512 (c .before .args .any .now))) (c .before .args .m) (c .before .args .c) (c .first-mark .result) (group-is _ _ (c .before .pre .2)) (c .first-mark .ensures))
     (λ c. omega (arith, inside (c .before)))
     (λ c. omega (arith, inside (c .before)))
