@@ -34,6 +34,7 @@ pub record Reached (S : ℕ → Bool) (m c step at : ℕ) : Type 0 where
   pub group : Group rest at
   pub same : devices S rest at ≡ devices S m c
 
+-- the group itself
 pub at-first : (S : ℕ → Bool) (m c step : ℕ) → Group m c → step ≡ 2 ^ (12 - m) → Reached S m c step c
 at-first S m c step g w = record { rest = m; wide = w; group = g; same = refl }
 
@@ -41,6 +42,7 @@ module _ (bytes any : List ℕ) (m c : ℕ) (o : One bytes any 1) (n : length (d
   abbrev S : ℕ → Bool
   S = inSet bytes
 
+  -- how far it can be
   pub near : (at < step) × (step ≤ 4096)
   near = let w = r .wide in let g = r .group .1 in let p : 2 ^ (12 - r .rest) ≤ 2 ^ 12 = pow-mono {j = 12} (omega arith) in (omega arith, omega arith)
 
@@ -68,9 +70,11 @@ module _ (bytes any : List ℕ) (m c : ℕ) (o : One bytes any 1) (n : length (d
     pub half-wide : 2 * step ≤ 4096
     half-wide = let p : 2 ^ (12 - k₀) ≤ 2 ^ 12 = pow-mono {j = 12} (omega arith) in omega (arith, next-wide)
 
+    -- one device in both halves together
     one-in : length (devices S k₀ at) + length (devices S k₀ (at + 2 ^ (12 - suc k₀))) ≡ 1
     one-in = sym (half-sum S k₀ at) ∙ ap length (subst (λ (i : ℕ). devices S i at ≡ devices S m c) (half .1) (r .same)) ∙ n
 
+    -- what the mark of the lower half says
     asked : inSet any (2 * step + at) ≡ leb 1 (length (devices S k₀ at))
     asked = subst (λ (i : ℕ). inSet any (i + at) ≡ leb 1 (length (devices S k₀ at))) (sym next-wide) (o k₀ at (is-group k₀ at (in-lower k₀ at whole)) (omega (arith, next-wide, near .0)))
 

@@ -22,9 +22,11 @@ use Rattle.search.proofs.Bits.{or-bit, and-bit, bit-at, one-of, two-of,
 
 -- ---- how many devices the halves have
 module _ (S : ℕ → Bool) where
+  -- as many as both together
   pub half-sum : (m c : ℕ) → length (devices S (suc m) c) ≡ length (devices S m c) + length (devices S m (c + 2 ^ (12 - suc m)))
   half-sum m c = ap length (halved S m c) ∙ length-append (devices S m c) (devices S m (c + 2 ^ (12 - suc m)))
 
+  -- one device: one where it has an event
   pub single-one : (c : ℕ) → leb 1 (length (devices S 0 c)) ≡ S c
   unfolding devices
   single-one c = go (S c)
@@ -33,6 +35,7 @@ module _ (S : ℕ → Bool) where
       go true = refl
       go false = refl
 
+  -- and never two
   pub single-two : (c : ℕ) → leb 2 (length (devices S 0 c)) ≡ false
   unfolding devices
   single-two c = go (S c)
@@ -73,6 +76,7 @@ module _ (bytes : List ℕ) (n : ℕ) (h : suc n ≤ 12) where
       ]
 
   module _ (any₀ any : List ℕ) (o : One bytes any₀ (2 ^ (12 - n))) where
+    -- right from M = n + 1 on, where each of its marks is set as either half's is
     pub next-one : Same any any₀ (2 ^ (12 - n)) → ((c : ℕ) → Group (suc n) c → inSet any (markOf (suc n) c) ≡ inSet any₀ (markOf n c) || inSet any₀ (markOf n (c + wide))) →
         One bytes any wide
     next-one s b =
@@ -80,6 +84,7 @@ module _ (bytes : List ℕ) (n : ℕ) (h : suc n ≤ 12) where
         (λ c g. b c g ∙ ap₂ _||_ (o n c (is-group n c (in-lower n c g)) (omega arith)) (o n (c + wide) (is-group n _ (in-upper n c g)) (omega arith))
         ∙ sym (ap (leb 1) (half-sum (inSet bytes) n c) ∙ one-of (length (devices (inSet bytes) n c)) (length (devices (inSet bytes) n (c + wide)))))
 
+    -- and where it is set as either half's is, or where both halves have one
     pub next-two : (two₀ two : List ℕ) → Two bytes two₀ (2 ^ (12 - n)) → Same two two₀ (2 ^ (12 - n)) →
         ((c : ℕ) → Group (suc n) c → inSet two (markOf (suc n) c) ≡ (inSet two₀ (markOf n c) || inSet two₀ (markOf n (c + wide))) || (inSet any₀ (markOf n c) && inSet any₀ (markOf n (c + wide)))) →
         Two bytes two wide
@@ -102,6 +107,7 @@ pub record Layered (any₀ two₀ any two : List ℕ) (w i : ℕ) : Type 0 where
   pub any-done : (j : ℕ) → j < i → getD any (w + j) 0 ≡ bitOr (getD any₀ (2 * w + j) 0) (getD any₀ (3 * w + j) 0)
   pub two-done : (j : ℕ) → j < i → getD two (w + j) 0 ≡ bitOr (bitOr (getD two₀ (2 * w + j) 0) (getD two₀ (3 * w + j) 0)) (bitAnd (getD any₀ (2 * w + j) 0) (getD any₀ (3 * w + j) 0))
 
+-- no byte is done yet
 pub none-done : (any two : List ℕ) (w : ℕ) → length any ≡ 1024 → length two ≡ 512 → Layered any two any two w 0
 none-done any two w a t = record {
   any-length = a;
@@ -112,10 +118,11 @@ none-done any two w a t = record {
   two-done = λ j h. absurd (omega arith);
 }
 
--- a byte more of a run
+-- a byte that is written is before those of the halves
 behind : (l l₀ : List ℕ) (w i x : ℕ) → i < w → ((s : ℕ) → 2 * w ≤ s → getD l s 0 ≡ getD l₀ s 0) → (s : ℕ) → 2 * w ≤ s → getD (set l (w + i) x) s 0 ≡ getD l₀ s 0
 behind l l₀ w i x h k s g = getD-set-other l (w + i) s x 0 (λ (e : s ≡ w + i). omega arith) ∙ k s g
 
+-- a byte more of a run
 pub longer : (l : List ℕ) (w i x : ℕ) (f : ℕ → ℕ) → w + i < length l → x ≡ f i → ((j : ℕ) → j < i → getD l (w + j) 0 ≡ f j) → (j : ℕ) → j < i + 1 → getD (set l (w + i) x) (w + j) 0 ≡ f j
 longer l w i x f h e d j g =
     elim (decLe i j) [
@@ -124,6 +131,7 @@ longer l w i x f h e d j g =
     ]
 
 module _ (any₀ two₀ any two : List ℕ) (w i : ℕ) (l : Layered any₀ two₀ any two w i) where
+  -- a byte more of one M
   pub byte-done : i < w → w ≤ 256 → (x y : ℕ) → x ≡ bitOr (getD any (2 * w + i) 0) (getD any (3 * w + i) 0) →
       y ≡ bitOr (bitOr (getD two (2 * w + i) 0) (getD two (3 * w + i) 0)) (bitAnd (getD any (2 * w + i) 0) (getD any (3 * w + i) 0)) →
       Layered any₀ two₀ (set any (w + i) x) (set two (w + i) y) w (i + 1)
@@ -157,6 +165,7 @@ all-copied bytes any b a d =
     ext-getD 0 (drop 512 any) bytes (n ∙ sym b) (λ i h. getD-drop 512 any i 0 ∙ d i (omega arith))
 
 module _ (bytes any₀ two₀ any two : List ℕ) (w e : ℕ) (k : e ≤ 8) (p : w ≡ 2 ^ e) (q : Marked bytes any₀ two₀ (16 * w)) (l : Layered any₀ two₀ any two w w) where
+  -- w bytes are 8 * w marks: those of M = n₀ + 1
   abbrev n₀ : ℕ
   n₀ = 8 - e
 
@@ -166,6 +175,7 @@ module _ (bytes any₀ two₀ any two : List ℕ) (w e : ℕ) (k : e ≤ 8) (p :
   wide-2w : 2 ^ (12 - n₀) ≡ 16 * w
   wide-2w = ap (λ (i : ℕ). 2 ^ i) (let s : 12 - n₀ ≡ 4 + e = omega arith in s) ∙ pow-add 2 4 e ∙ ap (λ (i : ℕ). 16 * i) (sym p)
 
+  -- bytes that were kept are marks that were kept
   same-marks : (r r₀ : List ℕ) → ((s : ℕ) → 2 * w ≤ s → getD r s 0 ≡ getD r₀ s 0) → Same r r₀ (2 ^ (12 - n₀))
   same-marks r r₀ s i h = ap (λ (x : ℕ). bitOf x (i % 8)) (s (i / 8) (omega (arith, wide-2w)))
 
@@ -173,6 +183,7 @@ module _ (bytes any₀ two₀ any two : List ℕ) (w e : ℕ) (k : e ≤ 8) (p :
     inside : c / 8 < w
     inside = let b = g .1 in omega (arith, wide-w)
 
+    -- where the mark of {M, C} lies, and those of its halves
     here : (r : List ℕ) → inSet r (markOf (suc n₀) c) ≡ bitOf (getD r (w + c / 8) 0) (c % 8)
     here r = ap (inSet r) (let s : markOf (suc n₀) c ≡ 8 * w + c = omega (arith, wide-w) in s) ∙ bit-at r w c
 
@@ -182,6 +193,7 @@ module _ (bytes any₀ two₀ any two : List ℕ) (w e : ℕ) (k : e ≤ 8) (p :
     upper : (r : List ℕ) → inSet r (markOf n₀ (c + 2 ^ (12 - suc n₀))) ≡ bitOf (getD r (3 * w + c / 8) 0) (c % 8)
     upper r = ap (inSet r) (let s : markOf n₀ (c + 2 ^ (12 - suc n₀)) ≡ 8 * (3 * w) + c = omega (arith, wide-w, wide-2w) in s) ∙ bit-at r (3 * w) c
 
+    -- what was done to the bytes, for one mark
     halves-one : inSet any (markOf (suc n₀) c) ≡ inSet any₀ (markOf n₀ c) || inSet any₀ (markOf n₀ (c + 2 ^ (12 - suc n₀)))
     halves-one =
         here any ∙ ap (λ (x : ℕ). bitOf x (c % 8)) (l .any-done (c / 8) inside) ∙ or-bit (getD any₀ (2 * w + c / 8) 0) (getD any₀ (3 * w + c / 8) 0) (c % 8)
@@ -212,6 +224,7 @@ module _ (bytes any₀ two₀ any two : List ℕ) (w e : ℕ) (k : e ≤ 8) (p :
       }
 
 -- ---- M = 0: the set itself
+-- a mark from 4,096 on is that of one device
 only-single : (m c : ℕ) → Group m c → 4096 ≤ markOf m c → m ≡ 0
 only-single zero c g h = refl
 only-single (suc m) c g h = absurd (let b = g .1 in let p : 2 ^ suc (12 - suc m) ≤ 2 ^ 12 = pow-mono {j = 12} (let a = g .0 in omega arith) in omega (arith, doubled (12 - suc m)))
@@ -220,6 +233,7 @@ only-single (suc m) c g h = absurd (let b = g .1 in let p : 2 ^ suc (12 - suc m)
 pub beyond : (l : List ℕ) (i : ℕ) → length l ≡ 512 → 4096 ≤ i → inSet l i ≡ false
 beyond l i e h = no-bit _ (i % 8) (List·getD-eq-default l 0 {n = i / 8} (omega arith))
 
+-- the set as it was copied
 pub set-marked : (any two : List ℕ) → length any ≡ 1024 → length two ≡ 512 → Marked (drop 512 any) any two 4096
 set-marked any two a t = record {
   any-length = a;
@@ -252,12 +266,14 @@ pub record Top (l : List ℕ) (eight four two one : ℕ) : Type 0 where
   pub twos : (c : ℕ) → c < 2 → inSet l (2 + c) ≡ bitOf two c
   pub ones : inSet l 1 ≡ bitOf one 0
 
+-- a bit of the first byte
 first-bit : (l : List ℕ) (byte i : ℕ) → getD l 0 0 ≡ byte → i < 8 → inSet l i ≡ bitOf byte i
 first-bit l byte i e h =
     let q : i / 8 ≡ 0 = omega arith in
     let r : i % 8 ≡ i = omega arith in
     rw (q, r, e) refl
 
+-- the first byte, packed
 topped : (l : List ℕ) (four two one byte : ℕ) → 2 ≤ length l → Packed four two one byte → Top (set l 0 byte) (getD l 1 0) four two one
 topped l four two one byte g p =
     let e : getD (set l 0 byte) 0 0 ≡ byte = getD-set-same l 0 byte 0 (omega arith) in
@@ -272,7 +288,7 @@ topped l four two one byte g p =
       ones = first-bit (set l 0 byte) byte 1 e (lit≤ tt) ∙ p .ones;
     }
 
--- the marks of one M from a byte of both halves, folded
+-- the marks of one M from the one byte of both halves, whose upper bits are shifted to the lower
 module _ (w : ℕ) (any two : List ℕ) (x y : ℕ) (u : (c : ℕ) → c < w + w → inSet any (w + w + c) ≡ bitOf x c) (v : (c : ℕ) → c < w + w → inSet two (w + w + c) ≡ bitOf y c) (c : ℕ) (h : c < w) where
   either : inSet any (w + c) ≡ bitOf (bitOr x (x / 2 ^ w)) c → inSet any (w + c) ≡ inSet any (w + w + c) || inSet any (w + w + (c + w))
   either e = let s : w + c ≡ c + w = omega arith in e ∙ fold-one x w c ∙ ap₂ _||_ (sym (u c (omega arith))) (ap (bitOf x) s ∙ sym (u (c + w) (omega arith)))
@@ -292,6 +308,7 @@ last : (l : List ℕ) (z : ℕ) → inSet l 1 ≡ bitOf z 0 → (c : ℕ) → c 
 last l z e zero h = e
 last l z e (suc c) h = absurd (omega arith)
 
+-- a byte and its upper bits: either; and two in y, or one in both of x
 abbrev fold₁ : ℕ → ℕ → ℕ
 fold₁ x w = bitOr x (x / 2 ^ w)
 
@@ -301,6 +318,7 @@ fold₂ x y w = bitOr (bitOr y (y / 2 ^ w)) (bitAnd x (x / 2 ^ w))
 module _ (bytes any two : List ℕ) (x y : ℕ) (a : Top any x (fold₁ x 4) (fold₁ (fold₁ x 4) 2) (fold₁ (fold₁ (fold₁ x 4) 2) 1))
     (b : Top two y (fold₂ x y 4) (fold₂ (fold₁ x 4) (fold₂ x y 4) 2) (fold₂ (fold₁ (fold₁ x 4) 2) (fold₂ (fold₁ x 4) (fold₂ x y 4) 2) 1))
     (o : One bytes any 8) (t : Two bytes two 8) where
+  -- M = 10, 11 and 12
   top-ones : (One bytes any 4) × (One bytes any 2) × (One bytes any 1)
   top-ones =
       let o₄ : One bytes any 4 = next-one bytes 9 (lit≤ tt) any any o (λ i h. refl) (λ c g. either 4 any two x y (a .eights) (b .eights) c (g .1) (a .fours c (g .1))) in
@@ -314,7 +332,7 @@ module _ (bytes any two : List ℕ) (x y : ℕ) (a : Top any x (fold₁ x 4) (fo
       let t₂ : Two bytes two 2 = next-two bytes 10 (lit≤ tt) any any (top-ones .0) two two t₄ (λ i h. refl) (λ c g. crossed 2 any two _ _ (a .fours) (b .fours) c (g .1) (b .twos c (g .1))) in
       next-two bytes 11 (lit≤ tt) any any (top-ones .1) two two t₂ (λ i h. refl) (λ c g. crossed 1 any two _ _ (a .twos) (b .twos) c (g .1) (last two _ (b .ones) c (g .1)))
 
--- all marks
+-- the first byte has the marks below 8
 same-but-first : (l : List ℕ) (x : ℕ) → Same (set l 0 x) l 8
 same-but-first l x i h = ap (λ (y : ℕ). bitOf y (i % 8)) (getD-set-other l 0 (i / 8) x 0 (λ (e : i / 8 ≡ 0). omega arith))
 
@@ -325,6 +343,7 @@ module _ (any two : List ℕ) (p r : ℕ) (q : Marked (drop 512 any) any two 8) 
   abbrev y₀ : ℕ
   y₀ = getD two 1 0
 
+  -- all marks
   pub top-marked : Packed (fold₁ x₀ 4) (fold₁ (fold₁ x₀ 4) 2) (fold₁ (fold₁ (fold₁ x₀ 4) 2) 1) p →
       Packed (fold₂ x₀ y₀ 4) (fold₂ (fold₁ x₀ 4) (fold₂ x₀ y₀ 4) 2) (fold₂ (fold₁ (fold₁ x₀ 4) 2) (fold₂ (fold₁ x₀ 4) (fold₂ x₀ y₀ 4) 2) 1) r →
       Marked (drop 512 any) (set any 0 p) (set two 0 r) 1
@@ -354,6 +373,7 @@ pub own : (bytes any two : List ℕ) (from : ℕ) → Marked bytes any two from 
 own bytes any two from q = subst (λ (l : List ℕ). Marked l any two from) (sym (q .whole)) q
 
 module _ (bytes any two : List ℕ) (width : ℕ) (d : Down bytes any two width) (h : 0 < width) where
+  -- there is an M more
   one-less : (n : ℕ) × (d .e ≡ suc n)
   one-less = go (d .e) (d .next)
     where
@@ -361,17 +381,20 @@ module _ (bytes any two : List ℕ) (width : ℕ) (d : Down bytes any two width)
       go zero q = absurd (omega arith)
       go (suc n) q = (n, refl)
 
+  -- its bytes
   power : width ≡ 2 ^ one-less .0
   power = let n = one-less in d .next ∙ ap (λ (i : ℕ). 2 ^ i / 2) (n .1) ∙ (let s : 2 ^ suc (n .0) / 2 ≡ 2 ^ n .0 = omega (arith, doubled (n .0)) in s)
 
   pub width-is : Width width
   width-is = let n = one-less in (n .0, (let f = d .few in let s = n .1 in omega arith), power)
 
+  -- what the next M asks
   pub down-asks : Marked (drop 512 any) any two (16 * width)
   down-asks =
       let n = one-less in
       own bytes any two _ (subst (λ (i : ℕ). Marked bytes any two i) (let p : 2 ^ d .e ≡ 2 ^ suc (n .0) = ap (λ (i : ℕ). 2 ^ i) (n .1) in let s : 8 * 2 ^ d .e ≡ 16 * width = omega (arith, power, doubled (n .0)) in s) (d .marked))
 
+  -- one M more
   pub down-more : (any₁ two₁ : List ℕ) → Marked (drop 512 any) any₁ two₁ (8 * width) → Down bytes any₁ two₁ (width / 2)
   down-more any₁ two₁ q =
       let n = one-less in record {
@@ -381,6 +404,7 @@ module _ (bytes any two : List ℕ) (width : ℕ) (d : Down bytes any two width)
         marked = subst (λ (l : List ℕ). Marked l any₁ two₁ (8 * 2 ^ n .0)) (d .marked .whole) (subst (λ (i : ℕ). Marked (drop 512 any) any₁ two₁ (8 * i)) power q);
       }
 
+-- the last of them takes one byte
 pub down-done : (bytes any two : List ℕ) → Down bytes any two 0 → Marked bytes any two 8
 down-done bytes any two d = go (d .e) (d .next) (d .marked)
   where
