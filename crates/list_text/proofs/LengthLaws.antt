@@ -138,27 +138,27 @@ module _ (s : List ℕ) (at count size : ℕ) (h : SplitHere s at count size) wh
           inv .known,
         )
 
-    module _ (l : i < size) (z next : ℕ) (a : Added s p 1 z next) (line : ℕ) (e : line ≡ length (wordLine size i 0)) where
+    module _ (l : i < size) (z next : ℕ) (a : Added s p 1 z next) where
       inside : i < length (h .c .splits)
       inside = omega (arith, shape s at count size h .0)
 
       there : (z ≡ getD (h .c .splits) i 0) × (drop next s ≡ written (drop (i + 1) (h .c .splits)) ++ h .rest) × (z ≤ 65535)
       there = next-there s (h .c .splits) (h .rest) p i (splits-most s at count size h) inside (inv .place) z next a
 
-      one-more : splitsLong size i (drop i (h .c .splits)) ≡ z * line + splitsLong size (i + 1) (drop (i + 1) (h .c .splits))
+      one-more : splitsLong size i (drop i (h .c .splits)) ≡ z * length (wordLine size i 0) + splitsLong size (i + 1) (drop (i + 1) (h .c .splits))
       one-more =
           ap (splitsLong size i) (drop-cons (h .c .splits) i 0 inside) ∙ ap (λ (k : ℕ). k * length (wordLine size i 0) + splitsLong size (suc i) (drop (suc i) (h .c .splits))) (sym (there .0))
-          ∙ ap (λ (k : ℕ). z * k + splitsLong size (suc i) (drop (suc i) (h .c .splits))) (sym e)
-          ∙ ap (λ (k : ℕ). z * line + splitsLong size k (drop k (h .c .splits))) (sym (add-one i))
+          ∙ ap (λ (k : ℕ). z * length (wordLine size i 0) + splitsLong size k (drop k (h .c .splits))) (sym (add-one i))
 
-      pub product-small : z * line ≤ 3840
+      pub product-small : z * length (wordLine size i 0) ≤ 3840
       product-small = omega (arith, one-more, inv .left, few)
 
-      pub long-small : long + z * line ≤ 3840
-      long-small = omega (arith, one-more, inv .left, few)
+      module _ (more : ℕ) (e : more ≡ z * length (wordLine size i 0)) where
+        pub long-small : long + more ≤ 3840
+        long-small = omega (arith, one-more, inv .left, few)
 
-      pub measure-more : Measuring s at count size splits next (long + z * line) (i + 1) h
-      measure-more = record { below = omega arith; known = inv .known; place = there .1; left = omega (arith, one-more, inv .left) }
+        pub measure-more : Measuring s at count size splits next (long + more) (i + 1) h
+        measure-more = record { below = omega arith; known = inv .known; place = there .1; left = omega (arith, one-more, inv .left) }
 
 -- ---- any cycle
 module _ (s : List ℕ) (at size : ℕ) (h : CycleHere s at size) (count p : ℕ) (a : Added s at 1 count p) where

@@ -4,7 +4,7 @@ use lists::Header;
 use lists::cycles_of;
 use numbers::sum_numbers;
 ghost use mathlib.Core.Path.{_≡_};
-ghost use Prim.Native.Nat.{_≤_};
+ghost use Prim.Native.Nat.{_*_, _≤_};
 ghost use lib.ListN.{length};
 ghost use Rattle.periods.specs.Inside.{CycleHere, SplitHere, IsList};
 ghost use Rattle.list_text.specs.Text.{decimal, headerLine, wordLine, refusedLine};
@@ -59,6 +59,18 @@ fn line_length(cycle: u16, sub: u16) -> usize
     a + b + 7
 }
 
+// The length of the lines of a Subcycle with so many words. Most have none.
+fn lines_length(many: usize, cycle: u16, sub: u16) -> usize
+    requires { ⌜ many * length (wordLine cycle sub 0) ≤ 3840 ⌝ }
+    ensures { λ r. ⌜ r ≡ many * length (wordLine cycle sub 0) ⌝ }
+{
+    if many == 0 {
+        return 0;
+    }
+    let line = line_length(cycle, sub);
+    many * line
+}
+
 // A cycle with split numbers, whose words start at a place.
 fn measure_split(list: &[u8], at: usize, count: u16, size: u16) -> Measured
     requires { ⌜ SplitHere (now list) at count size ⌝ }
@@ -71,8 +83,7 @@ fn measure_split(list: &[u8], at: usize, count: u16, size: u16) -> Measured
     let mut i: u16 = 0;
     while i < size {
         let z = sum_numbers(list, p, 1);
-        let line = line_length(size, i);
-        long += z.total * line;
+        long += lines_length(z.total, size, i);
         p = z.next;
         i += 1;
     }

@@ -40,6 +40,26 @@ fn put_lines(
     Places { next: p, to: q }
 }
 
+// The same, of a cycle with split numbers, where most Subcycles have no words.
+fn put_subcycle(
+    list: &[u8],
+    at: usize,
+    many: usize,
+    cycle: u16,
+    sub: u16,
+    out: &mut [u8],
+    to: usize,
+) -> Places
+    requires { ⌜ (cycle < 10000) × (sub < 10000) × WordsHere (now list) at many cycle sub to (now out) ⌝ }
+    ensures { λ r. ⌜ ((h : WordsHere (now (list .entry)) at many cycle sub to (now (out .entry)))
+        → LinesPut (now (list .entry)) to (wordLines cycle sub (h .words)) (h .rest) (now (out .entry)) (now (out .exit)) (r .to) (r .next)) ⌝ }
+{
+    if many == 0 {
+        return Places { next: at, to };
+    }
+    put_lines(list, at, many, cycle, sub, out, to)
+}
+
 // The lines of a cycle with split numbers: its words start at one place, its split numbers at another.
 fn put_split(list: &[u8], at: usize, splits: usize, size: u16, out: &mut [u8], to: usize) -> Places
     requires { ⌜ SplitFits (now list) at splits size to (now out) ⌝ }
@@ -52,7 +72,7 @@ fn put_split(list: &[u8], at: usize, splits: usize, size: u16, out: &mut [u8], t
     let mut i: u16 = 0;
     while i < size {
         let z = sum_numbers(list, p, 1);
-        let l = put_lines(list, w, z.total, size, i, out, q);
+        let l = put_subcycle(list, w, z.total, size, i, out, q);
         w = l.next;
         q = l.to;
         p = z.next;

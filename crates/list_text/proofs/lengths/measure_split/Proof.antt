@@ -17,14 +17,14 @@ abbrev μ-loop : tie.MeasureT-loop
 loop-holds : tie.Need-loop-holds Inv-loop μ-loop
 loop-holds c = (c .before .before .pre, λ h. measure-start (c .before .before .args .list .now) (c .before .before .args .at) (c .before .before .args .count) (c .before .before .args .size) h _ _ (c .sum-numbers .ensures))
 
-mul-long : tie.Need-mul-long Inv-loop μ-loop
-mul-long c = record { fits = omega (arith, product-small (c .before .before .before .before .before .before .before .args .list .now) (c .before .before .before .before .before .before .before .args .at) (c .before .before .before .before .before .before .before .args .count) (c .before .before .before .before .before .before .before .args .size) (c .before .before .before .before .loop .inv .0) _ _ _ _ (c .before .before .before .before .loop .inv .1 (c .before .before .before .before .loop .inv .0)) (c .before .before .before .loop-test .taken) _ _ (c .before .before .sum-numbers2 .ensures) _ (c .before .line-length .ensures)) }
+lines-length-requires : tie.Need-lines-length-requires Inv-loop μ-loop
+lines-length-requires c κs = product-small (c .before .before .before .before .before .args .list .now) (c .before .before .before .before .before .args .at) (c .before .before .before .before .before .args .count) (c .before .before .before .before .before .args .size) (c .before .before .loop .inv .0) _ _ _ _ (c .before .before .loop .inv .1 (c .before .before .loop .inv .0)) (c .before .loop-test .taken) _ _ (c .sum-numbers2 .ensures)
 
 add-long : tie.Need-add-long Inv-loop μ-loop
-add-long c = record { fits = omega (arith, long-small (c .before .before .before .before .before .before .before .args .list .now) (c .before .before .before .before .before .before .before .args .at) (c .before .before .before .before .before .before .before .args .count) (c .before .before .before .before .before .before .before .args .size) (c .before .before .before .before .loop .inv .0) _ _ _ _ (c .before .before .before .before .loop .inv .1 (c .before .before .before .before .loop .inv .0)) (c .before .before .before .loop-test .taken) _ _ (c .before .before .sum-numbers2 .ensures) _ (c .before .line-length .ensures)) }
+add-long c = record { fits = omega (arith, long-small (c .before .before .before .before .before .before .args .list .now) (c .before .before .before .before .before .before .args .at) (c .before .before .before .before .before .before .args .count) (c .before .before .before .before .before .before .args .size) (c .before .before .before .loop .inv .0) _ _ _ _ (c .before .before .before .loop .inv .1 (c .before .before .before .loop .inv .0)) (c .before .before .loop-test .taken) _ _ (c .before .sum-numbers2 .ensures) _ (c .lines-length .ensures)) }
 
 loop-again : tie.Need-loop-again Inv-loop μ-loop
-loop-again c = (c .before .before .before .before .loop .inv .0, λ h. measure-more (c .before .before .before .before .before .before .before .args .list .now) (c .before .before .before .before .before .before .before .args .at) (c .before .before .before .before .before .before .before .args .count) (c .before .before .before .before .before .before .before .args .size) h _ _ _ _ (c .before .before .before .before .loop .inv .1 h) (c .before .before .before .loop-test .taken) _ _ (c .before .before .sum-numbers2 .ensures) _ (c .before .line-length .ensures))
+loop-again c = (c .before .before .before .loop .inv .0, λ h. measure-more (c .before .before .before .before .before .before .args .list .now) (c .before .before .before .before .before .before .args .at) (c .before .before .before .before .before .before .args .count) (c .before .before .before .before .before .before .args .size) h _ _ _ _ (c .before .before .before .loop .inv .1 h) (c .before .before .loop-test .taken) _ _ (c .before .sum-numbers2 .ensures) _ (c .lines-length .ensures))
 
 returns : tie.Need-returns Inv-loop μ-loop
 returns c h = measure-end (c .before .before .before .before .args .list .now) (c .before .before .before .before .args .at) (c .before .before .before .before .args .count) (c .before .before .before .before .args .size) h _ _ _ _ (c .before .loop .inv .1 h) (c .loop-test .left)
@@ -38,8 +38,7 @@ measure-split-spec =
     (λ c κs. search needs)
     loop-holds
     (λ c κs. search needs)
-    (λ c κs. search needs)
-    mul-long
+    lines-length-requires
     add-long
     (λ c. search needs)
     (λ c. search needs)
