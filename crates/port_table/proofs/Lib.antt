@@ -1,3 +1,4 @@
 pub mod OneMore
 pub mod Steps
 pub mod Places
+pub mod OneBefore

@@ -1,16 +1,21 @@
--- What the functions inside the crate promise each other: a walk so far, one record more, and what the walk shows.
+-- What the functions inside the crate promise each other: a walk so far, one record more, and what the walk shows; of the lookup and of the goodness test.
 -- Assumes nothing.
 use mathlib.Core.Path.{_≡_}
-use mathlib.Core.Bool.{Bool, true, false, cond, _&&_}
+use mathlib.Core.Bool.{Bool, true, false, not, cond, _&&_}
 use mathlib.Core.List.{List, [], _∷_, _++_}
-use Prim.Native.Nat.{ℕ, _+_, _*_, _≤_, _<_}
-use lib.Dec.{ltb, leb}
-use lib.ListN.{length}
+use Prim.Native.Nat.{ℕ, suc, _+_, _*_, _%_, _≤_, _<_}
+use lib.Dec.{eqb, ltb, leb}
+use lib.ListN.{length, getD, take, drop}
+use Rattle.checks.specs.Bits.{one}
 use Rattle.port_table.specs.declared.Port.{Port}
 use Rattle.port_table.specs.declared.Place.{Place}
 use Rattle.port_table.specs.declared.Seen.{Seen}
+use Rattle.port_table.specs.declared.Tested.{Tested}
 use Rattle.port_table.specs.declared.records.Walk.{Walk}
+use Rattle.port_table.specs.declared.goodness.Taken.{Taken}
+use Rattle.port_table.specs.Table.{rising, noPort}
 use Rattle.port_table.specs.Seen.{nextFrom, goodSeen, seenOf}
+use Rattle.port_table.specs.Tested.{sinkBits, sinksPart, testedOf}
 
 -- a walk of some table showed this
 abbrev pub Walked : Seen → ℕ → Type 0
@@ -62,3 +67,42 @@ WalkedOn w i p a r = (ps : List Port) → Keeps w a ps → length ps ≡ i → K
 -- what the table shows whose records it walked, unless they are too many
 abbrev pub Shows : Walk → ℕ → Seen → Type 0
 Shows w n r = (a : ℕ) (ps : List Port) → length ps ≡ n → (n ≤ 256 → Keeps w a ps) → r ≡ seenOf a ps
+
+-- ---- the goodness test, from the last record to the first
+
+-- no record taken, or one out of order
+abbrev pub emptyTaken : Bool → ℕ → Taken
+emptyTaken ok limit = record { good = ok; limit = limit; part = 0; parts = 0 ∷ 0 ∷ 0 ∷ 0 ∷ [] }
+
+-- the bit of a record, by its direction
+abbrev pub sinkBit : ℕ → ℕ
+sinkBit sink = one (not (eqb sink 0))
+
+-- what an address must be below, before records in order
+abbrev pub lowest : List Port → ℕ
+lowest [] = 4096
+lowest (p ∷ ps) = p .address
+
+-- the sinks of records in order: those up to the next full part, and all full parts
+pub record Marked (t : Taken) (ps : List Port) (i : ℕ) : Type 0 where
+  pub begun : (n : ℕ) → n < 64 → (i + n) % 64 ≡ 0 → t .part ≡ sinkBits (take n (drop i ps))
+  pub full : (k : ℕ) → k < 4 → i ≤ 64 * k → getD (t .parts) k 0 ≡ sinksPart ps k
+
+-- what is kept of the records from record i on
+pub record Takes (t : Taken) (ps : List Port) (i : ℕ) : Type 0 where
+  pub ordered : t .good ≡ rising 0 (drop i ps)
+  pub below : t .limit ≡ cond (rising 0 (drop i ps)) (lowest (drop i ps)) 0
+  pub four : length (t .parts) ≡ 4
+  pub marked : rising 0 (drop i ps) ≡ true → Marked t ps i
+
+-- the records behind record i are taken, and it is one of at most 256
+abbrev pub OnTake : Taken → ℕ → Type 0
+OnTake t i = (ps : List Port) × Takes t ps (suc i) × (i < length ps) × (i < 256)
+
+-- whatever the table, with record i taken too
+abbrev pub TakenOn : Taken → ℕ → ℕ → ℕ → ℕ → Taken → Type 0
+TakenOn t i a f s r = (ps : List Port) → i < length ps → getD ps i noPort ≡ record { address = a; «f_code» = f; sink = s } → Takes t ps (suc i) → Takes r ps i
+
+-- what the table shows whose records are taken, unless they are too many
+abbrev pub Tells : Taken → ℕ → Tested → Type 0
+Tells t n r = (ps : List Port) → length ps ≡ n → (n ≤ 256 → Takes t ps 0) → r ≡ testedOf ps

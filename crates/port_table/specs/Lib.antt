@@ -1,3 +1,4 @@
 pub mod Table
 pub mod Seen
+pub mod Tested
 pub mod Inside

@@ -1,8 +1,10 @@
-// The port table, lent as a run of records, and the one walk over it (document 01, "Ports and ages").
+// The port table, lent as a run of records, and the two walks over it (document 01, "Ports and ages").
+mod goodness;
 mod records;
 
 ghost use mathlib.Core.Path.{_≡_};
 ghost use Rattle.port_table.specs.Seen.{seenOf};
+ghost use Rattle.port_table.specs.Tested.{testedOf};
 
 // A record of the port table. Sink 0 is a source, anything else a sink.
 #[repr(C)]
@@ -30,6 +32,14 @@ pub struct Seen {
     pub place: Place,
 }
 
+// What the goodness test shows: bit i mod 64 of part i div 64 is 1 where record i is a sink. Of a table that is not good
+// all else is 0.
+pub struct Tested {
+    pub good: bool,
+    pub count: usize,
+    pub sinks: [u64; 4],
+}
+
 // Goodness test and lookup in one walk.
 pub fn look(table: &[Port], address: u16) -> Seen
     ensures { λ r. ⌜ r ≡ seenOf address (now (table .entry)) ⌝ }
@@ -42,4 +52,17 @@ pub fn look(table: &[Port], address: u16) -> Seen
         i += 1;
     }
     records::shown(walk, table.len())
+}
+
+// The goodness test alone, for a call that needs every record and no address.
+pub fn test_table(table: &[Port]) -> Tested
+    ensures { λ r. ⌜ r ≡ testedOf (now (table .entry)) ⌝ }
+{
+    let mut taken = goodness::none();
+    let mut i = records::walked(table.len());
+    while 0 < i {
+        i -= 1;
+        taken = goodness::step(taken, i, table[i].address, table[i].f_code, table[i].sink);
+    }
+    goodness::shown(taken, table.len())
 }
