@@ -30,6 +30,21 @@ pub tested-bad : (ps : List Port) → good ps ≡ false → testedOf ps ≡ empt
 unfolding testedOf
 tested-bad ps h = ap (λ (b : Bool). cond b (goodTested ps) emptyTested) h
 
+tests-good : (t : Tested) (ps : List Port) → t ≡ testedOf ps → t .good ≡ good ps
+tests-good t ps e = by-cases (good ps) (λ h. ap (λ (z : Tested). z .good) (e ∙ tested-good ps h) ∙ sym h) (λ h. ap (λ (z : Tested). z .good) (e ∙ tested-bad ps h) ∙ sym h)
+
+-- a table that showed itself good, and all that it showed
+pub tested : (t : Tested) (ps : List Port) → t ≡ testedOf ps → not (t .good) ≡ false → (good ps ≡ true) × (t ≡ goodTested ps)
+tested t ps e g = let h : good ps ≡ true = sym (tests-good t ps e) ∙ not-false (t .good) g in (h, e ∙ tested-good ps h)
+
+-- the parts in their order
+pub sinks-at : (ps : List Port) (k : ℕ) → k < 4 → sinksPart ps k ≡ getD (goodTested ps .sinks) k 0
+sinks-at ps zero h = refl
+sinks-at ps (suc zero) h = refl
+sinks-at ps (suc (suc zero)) h = refl
+sinks-at ps (suc (suc (suc zero))) h = refl
+sinks-at ps (suc (suc (suc (suc k)))) h = absurd (omega arith)
+
 -- ---- bits
 
 one-most : (b : Bool) → one b ≤ 1
@@ -239,12 +254,5 @@ module _ (t : Taken) (n : ℕ) where
     tells-good g = λ ps l k.
         let r : rising 0 ps ≡ true = sym (k few .ordered) ∙ not-false (t .good) g in
         let m = k few .marked r in
-        let are : t .parts ≡ goodTested ps .sinks = ext-getD 0 (t .parts) (goodTested ps .sinks) (k few .four) (λ j h. each ps (t .parts) (m .full) j (omega (arith, h, k few .four))) in
+        let are : t .parts ≡ goodTested ps .sinks = ext-getD 0 (t .parts) (goodTested ps .sinks) (k few .four) (λ j h. let h4 : j < 4 = omega (arith, k few .four) in m .full j h4 (omega arith) ∙ sinks-at ps j h4) in
         ap₂ (λ (c : ℕ) (s : List ℕ). record { good = true; count = c; sinks = s }) (sym l) are ∙ sym (tested-good ps (ap₂ _&&_ (le-leb (length ps) 256 (omega arith)) r))
-      where
-        each : (ps : List Port) (parts : List ℕ) → ((j : ℕ) → j < 4 → 0 ≤ 64 * j → getD parts j 0 ≡ sinksPart ps j) → (j : ℕ) → j < 4 → getD parts j 0 ≡ getD (goodTested ps .sinks) j 0
-        each ps parts f zero h = f 0 h (omega arith)
-        each ps parts f (suc zero) h = f 1 h (omega arith)
-        each ps parts f (suc (suc zero)) h = f 2 h (omega arith)
-        each ps parts f (suc (suc (suc zero))) h = f 3 h (omega arith)
-        each ps parts f (suc (suc (suc (suc j)))) h = absurd (omega arith)

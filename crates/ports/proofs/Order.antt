@@ -5,10 +5,9 @@ use mathlib.Core.Bool.{Bool, true, false, not, cond}
 use mathlib.Core.List.{List, [], _∷_, _++_}
 use Prim.Native.Nat.{ℕ, _+_, _-_, _≤_, _<_}
 use native.Mathlib.Omega.{arith}
-use borrow.Author.Tests.{eq-eqb, ne-eqb, lt-ltb, le-ltb, ltb-false, not-true, not-false}
+use borrow.Author.Tests.{eq-eqb, ne-eqb, lt-ltb, le-ltb, not-true, not-false}
 use lib.Dec.{eqb, ltb}
 use lib.ListN.{length, getD, set, take, drop}
-use lib.Seq.{take-length}
 use Rattle.refusals.specs.Told.{gives, refusal, refusing}
 use Rattle.refusals.specs.declared.Refusal.{Refusal}
 use Rattle.refusals.specs.declared.Refusal.the-variants.{WrongLength, TooShort, TableNotGood, NotProcessData, NoSuchPort, FcodeNotPorts, WrongDirection}
@@ -21,20 +20,22 @@ use Rattle.rows.proofs.Rows.{whole-most}
 use Rattle.frames.specs.Slave.{slaveData, slaveFrame, slaveRead, slaveReadOut, slaveWrite, slaveWriteOut}
 use Rattle.port_table.specs.declared.Port.{Port}
 use Rattle.port_table.specs.declared.Seen.{Seen}
+use Rattle.port_table.specs.declared.Tested.{Tested}
 use Rattle.port_table.specs.Table.{good, portOf}
 use Rattle.port_table.specs.Seen.{emptySeen, goodSeen, seenOf}
+use Rattle.port_table.specs.Tested.{emptyTested, goodTested, testedOf}
 use Rattle.port_table.proofs.OneMore.{by-cases, size-most, good-split}
 use Rattle.port_table.proofs.Steps.{seen-good, seen-bad, shown}
+use Rattle.port_table.proofs.OneBefore.{tested-good, tested-bad, tested}
 use Rattle.ports.specs.Lent.{answered, unlessRefused, portData, replaced}
 use Rattle.ports.specs.Arriving.{arriveRefusal, arrive, arriveStore, arriveAges}
 use Rattle.ports.specs.Answering.{answerRefusal, answer, answerOut}
 use Rattle.ports.specs.Reading.{readRefusal, read, readOut, readAge}
 use Rattle.ports.specs.Filling.{fillRefusal, fill, fillStore}
-use Rattle.ports.specs.Ticking.{aged, tickRefusal, tick, tickAges}
-use Rattle.ports.specs.Inside.{Arrived, Answered, HasRead, Filled, Showed, tickCode, dueOf}
+use Rattle.ports.specs.Ticking.{tickRefusal, tick, tickAges}
+use Rattle.ports.specs.Inside.{Arrived, Answered, HasRead, Filled, Showed, TestedSome, AgedAll, Ticked}
 use Rattle.frames.proofs.Turns.{length-part}
 use Rattle.ports.proofs.Bytes.{front, front-is, front-whole, from, from-room, putFrom, put-is, put-kept}
-use Rattle.ports.proofs.Ageing.{aged-none}
 use Rattle.ports.proofs.Frames.{frameCheck, outCheck, read-gives, read-refuses, write-gives, write-refuses}
 
 -- ---- answers
@@ -338,53 +339,41 @@ module _ (s : Seen) (store d : List ℕ) where
                 let z = shown s a ps e g .1 in
                 (ap toldCode er ∙ value-told 0 (omega arith) ∙ answered-yes k (0 ∷ []), e0 ∙ ap (λ (t : Seen). replaced (t .place .offset) d store) z ∙ changed k _ store)
 
--- ---- a tick
-
 -- a good table has at most 256 records
 pub few : (s : Seen) → Showed s → not (s .good) ≡ false → s .count ≤ 256
 few s (a, (ps, e)) g = let z = shown s a ps e g in subst (λ (t : Seen). t .count ≤ 256) (sym (z .1)) (good-split ps (z .0) .0)
 
--- what a tick answers, how many records it ages, and what that leaves
-pub record Ticks (ps : List Port) (ages : List ℕ) (r due : ℕ) : Type 0 where
-  pub told : toldCode r ≡ tick ps ages
-  pub recorded : due ≤ length ps
-  pub lent : due ≤ length ages
-  pub left : aged (take due ps) ages ≡ tickAges ps ages
+-- ---- a tick
 
-tick-no : (ps : List Port) (ages : List ℕ) (R : Refusal) → eqb (numberOf R) 0 ≡ false → tickRefusal ps ages ≡ numberOf R → Ticks ps ages (codeOf R) 0
-unfolding tick tickAges
-tick-no ps ages R p k = record {
-  told = refusal-told (codeOf R) R refl ∙ answered-no k p (0 ∷ []);
-  recorded = omega arith;
-  lent = omega arith;
-  left = aged-none ps ages ∙ kept k p _ ages;
-}
+pub few-tested : (t : Tested) → TestedSome t → not (t .good) ≡ false → t .count ≤ 256
+few-tested t (ps, e) g = let z = tested t ps e g in subst (λ (u : Tested). u .count ≤ 256) (sym (z .1)) (good-split ps (z .0) .0)
 
-tick-yes : (ps : List Port) (ages : List ℕ) → length ps ≤ length ages → tickRefusal ps ages ≡ 0 → Ticks ps ages 0 (length ps)
-unfolding tick tickAges
-tick-yes ps ages h k = record {
-  told = value-told 0 (omega arith) ∙ answered-yes k (0 ∷ []);
-  recorded = omega arith;
-  lent = h;
-  left = ap (λ (l : List Port). aged l ages) (take-length ps) ∙ changed k _ ages;
-}
+module _ (t : Tested) (ages : List ℕ) where
+  abbrev tickAt : Tested → ℕ
+  tickAt u = cond (not (u .good)) 13 (cond (ltb (length ages) (u .count)) 4 0)
 
-module _ (ps : List Port) (ages : List ℕ) (a : ℕ) where
-  abbrev OfShown : Seen → Type 0
-  OfShown s = Ticks ps ages (tickCode s (length ages)) (dueOf s (tickCode s (length ages)))
-
-  abbrev OfGood : Bool → Type 0
-  OfGood short = Ticks ps ages (cond short (codeOf TooShort) 0) (cond (eqb (cond short (codeOf TooShort) 0) 0) (length ps) 0)
-
-  tick-shown : OfShown (seenOf a ps)
+  tick-shown : (ps : List Port) → t ≡ testedOf ps → tickRefusal ps ages ≡ tickAt t
   unfolding tickRefusal
-  tick-shown = by-cases (good ps)
-      (λ g. subst OfShown (sym (seen-good a ps g)) (by-cases (ltb (length ages) (length ps))
-      (λ t. subst OfGood (sym t) (tick-no ps ages TooShort refl (simp (g, t))))
-      (λ f. subst OfGood (sym f) (tick-yes ps ages (ltb-false (length ages) (length ps) f) (simp (g, f))))))
-      (λ b. subst OfShown (sym (seen-bad a ps b)) (tick-no ps ages TableNotGood refl (simp b)))
+  tick-shown ps e = by-cases (good ps)
+      (λ g. let z : tickRefusal ps ages ≡ tickAt (goodTested ps) = simp g in z ∙ sym (ap tickAt (e ∙ tested-good ps g)))
+      (λ b. let z : tickRefusal ps ages ≡ tickAt emptyTested = simp b in z ∙ sym (ap tickAt (e ∙ tested-bad ps b)))
 
-pub ticks : (s : Seen) (a : ℕ) (ps : List Port) (ages : List ℕ) (r due : ℕ) → s ≡ seenOf a ps → r ≡ tickCode s (length ages) → due ≡ dueOf s r → Ticks ps ages r due
-ticks s a ps ages r due e er ed =
-    subst (λ (d : ℕ). Ticks ps ages r d) (sym ed)
-    (subst (λ (n : ℕ). Ticks ps ages n (dueOf s n)) (sym er) (subst (OfShown ps ages a) (sym e) (tick-shown ps ages a)))
+  module _ (r : ℕ) where
+    tick-no : (n : ℕ) → toldCode r ≡ refusal n → eqb n 0 ≡ false → tickAt t ≡ n → Ticked t ages r ages
+    unfolding tick tickAges
+    tick-no n c p h = λ ps e.
+        let k : tickRefusal ps ages ≡ n = tick-shown ps e ∙ h in
+        (c ∙ answered-no k p (0 ∷ []), kept k p _ ages)
+
+    pub tick-13 : not (t .good) ≡ true → r ≡ codeOf TableNotGood → Ticked t ages r ages
+    tick-13 g c = tick-no 13 (refusal-told r TableNotGood c) refl (simp (not-true (t .good) g))
+
+    module _ (g : not (t .good) ≡ false) where
+      pub tick-4 : length ages < t .count → r ≡ codeOf TooShort → Ticked t ages r ages
+      tick-4 h c = tick-no 4 (refusal-told r TooShort c) refl (simp (not-false (t .good) g, lt-ltb (length ages) (t .count) h))
+
+      pub tick-done : t .count ≤ length ages → (ages' : List ℕ) → AgedAll t ages ages' → r ≡ 0 → Ticked t ages r ages'
+      unfolding tick tickAges
+      tick-done h ages' all er = λ ps e.
+          let k : tickRefusal ps ages ≡ 0 = tick-shown ps e ∙ simp (not-false (t .good) g, le-ltb (length ages) (t .count) h) in
+          (ap toldCode er ∙ value-told 0 (omega arith) ∙ answered-yes k (0 ∷ []), all ps (tested t ps e g .1) ∙ changed k _ ages)

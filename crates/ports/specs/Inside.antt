@@ -1,23 +1,24 @@
 -- What the functions inside the crate promise each other: the rules, over what a walk showed, the same as the calls of every table that shows it.
 -- Assumes nothing.
 use mathlib.Core.Path.{_≡_}
-use mathlib.Core.Bool.{not, cond}
+use mathlib.Core.Bool.{cond}
 use mathlib.Core.List.{List}
-use Prim.Native.Nat.{ℕ}
-use lib.Dec.{eqb, ltb}
-use Rattle.refusals.specs.declared.Refusal.the-variants.{TooShort, TableNotGood}
-use Rattle.refusals.specs.Codes.{codeOf, toldCode}
+use Prim.Native.Nat.{ℕ, _+_, _≤_, min}
+use lib.Dec.{eqb}
+use lib.ListN.{length, take, drop}
+use Rattle.refusals.specs.Codes.{toldCode}
 use Rattle.frames.specs.Words.{address}
 use Rattle.port_table.specs.declared.Port.{Port}
 use Rattle.port_table.specs.declared.Seen.{Seen}
-use Rattle.port_table.specs.Table.{isSink}
+use Rattle.port_table.specs.declared.Tested.{Tested}
 use Rattle.port_table.specs.Seen.{seenOf}
+use Rattle.port_table.specs.Tested.{sinkBits, goodTested, testedOf}
 use Rattle.port_table.specs.Inside.{Walked}
 use Rattle.ports.specs.Arriving.{arrive, arriveStore, arriveAges}
 use Rattle.ports.specs.Answering.{answer, answerOut}
 use Rattle.ports.specs.Reading.{read, readOut, readAge}
 use Rattle.ports.specs.Filling.{fill, fillStore}
-use Rattle.ports.specs.Ticking.{older}
+use Rattle.ports.specs.Ticking.{older, aged, tick, tickAges}
 
 -- of an arrival: the answer, the store and the ages afterwards
 abbrev pub Arrived : Seen → List ℕ → List ℕ → ℕ → List ℕ → ℕ → List ℕ → List ℕ → Type 0
@@ -43,14 +44,27 @@ abbrev pub Filled : Seen → List ℕ → List ℕ → ℕ → List ℕ → Type
 Filled s store d r store' =
     (a : ℕ) (ps : List Port) → s ≡ seenOf a ps → (toldCode r ≡ fill ps store a d) × (store' ≡ fillStore ps store a d)
 
--- a tick's answer, over what a walk showed and the number of ages
-abbrev pub tickCode : Seen → ℕ → ℕ
-tickCode s n = cond (not (s .good)) (codeOf TableNotGood) (cond (ltb n (s .count)) (codeOf TooShort) 0)
+-- an age after a tick, by the bit of its record
+abbrev pub olderBy : ℕ → ℕ → ℕ
+olderBy bit age = cond (eqb bit 0) age (older age)
 
--- how many records it ages: all, or none where it is refused
-abbrev pub dueOf : Seen → ℕ → ℕ
-dueOf s answer = cond (eqb answer 0) (s .count) 0
+-- the end of the part that begins with a record: 64 records on, or behind the last
+abbrev pub partEnd : ℕ → ℕ → ℕ
+partEnd from count = min (from + 64) count
 
--- a record's age after a tick
-abbrev pub olderPort : Port → ℕ → ℕ
-olderPort p age = cond (isSink p) (older age) age
+-- whatever table a part is of: ages that are done up to its first record are done up to the end
+abbrev pub AgedPart : ℕ → ℕ → ℕ → List ℕ → List ℕ → Type 0
+AgedPart part from to ages ages' =
+    (ps : List Port) (first : List ℕ) → part ≡ sinkBits (take 64 (drop from ps)) → to ≤ from + 64 → to ≤ length ps → ages ≡ aged (take from ps) first → ages' ≡ aged (take to ps) first
+
+-- the ages of a good table
+abbrev pub AgedAll : Tested → List ℕ → List ℕ → Type 0
+AgedAll t ages ages' = (ps : List Port) → t ≡ goodTested ps → ages' ≡ aged ps ages
+
+-- the goodness test of some table showed this
+abbrev pub TestedSome : Tested → Type 0
+TestedSome t = (ps : List Port) × (t ≡ testedOf ps)
+
+-- of a tick: the answer and the ages afterwards
+abbrev pub Ticked : Tested → List ℕ → ℕ → List ℕ → Type 0
+Ticked t ages r ages' = (ps : List Port) → t ≡ testedOf ps → (toldCode r ≡ tick ps ages) × (ages' ≡ tickAges ps ages)

@@ -66,9 +66,6 @@ pub extern "C" fn mvb_fill(table: &[Port], store: &mut [u8], address: u16, data:
 pub extern "C" fn mvb_tick(table: &[Port], ages: &mut [u16]) -> u32
     ensures { λ r. ⌜ (toldCode r ≡ tick (now (table .entry)) (now (ages .entry))) × (now (ages .exit) ≡ tickAges (now (table .entry)) (now (ages .entry))) ⌝ }
 {
-    let seen = port_table::look(table, 0);
-    let answer = ticks::answer(seen, ages.len());
-    let due = ticks::due(seen, answer);
-    ticks::age_all(due, table, ages);
-    answer
+    let tested = port_table::test_table(table);
+    ticks::tick(tested, ages)
 }

@@ -1,38 +1,15 @@
-// A tick: its answer, over what the walk of the table showed, and the ages.
-use port_table::Port;
-use port_table::Seen;
+// A tick, over what the goodness test of the table showed.
+use port_table::Tested;
 use refusals::Refusal;
 ghost use mathlib.Core.Path.{_≡_};
 ghost use Prim.Native.Nat.{_≤_};
-ghost use lib.ListN.{length, take};
-ghost use Rattle.ports.specs.Ticking.{aged};
-ghost use Rattle.ports.specs.Inside.{tickCode, dueOf, olderPort};
+ghost use lib.ListN.{length};
+ghost use Rattle.ports.specs.Inside.{olderBy, partEnd, AgedPart, AgedAll, Ticked, TestedSome};
 
-// 13; 4 for ages, of which there are so many.
-pub(crate) fn answer(seen: Seen, ages: usize) -> u32
-    ensures { λ r. ⌜ r ≡ tickCode seen ages ⌝ }
+fn older(bit: u64, age: u16) -> u16
+    ensures { λ r. ⌜ r ≡ olderBy bit age ⌝ }
 {
-    let good = seen.good;
-    if !good {
-        return Refusal::TableNotGood.code();
-    }
-    if ages < seen.count {
-        return Refusal::TooShort.code();
-    }
-    0
-}
-
-// How many records a tick of that answer ages: all, or none where it is a refusal.
-pub(crate) fn due(seen: Seen, answer: u32) -> usize
-    ensures { λ r. ⌜ r ≡ dueOf seen answer ⌝ }
-{
-    if answer == 0 { seen.count } else { 0 }
-}
-
-fn older(port: Port, age: u16) -> u16
-    ensures { λ r. ⌜ r ≡ olderPort port age ⌝ }
-{
-    if port.sink == 0 {
+    if bit == 0 {
         return age;
     }
     if 65535 <= age {
@@ -41,14 +18,54 @@ fn older(port: Port, age: u16) -> u16
     age + 1
 }
 
-// The ages of the first records, as many as are due.
-pub(crate) fn age_all(due: usize, table: &[Port], ages: &mut [u16])
-    requires { ⌜ (due ≤ length (now table)) × (due ≤ length (now ages)) ⌝ }
-    ensures { λ _. ⌜ now (ages .exit) ≡ aged (take due (now (table .entry))) (now (ages .entry)) ⌝ }
+// The ages of records of one part, from one record up to another: the lowest bit is the first one's.
+fn age_part(part: u64, from: usize, to: usize, ages: &mut [u16])
+    requires { ⌜ (from ≤ to) × (to ≤ length (now ages)) ⌝ }
+    ensures { λ _. ⌜ AgedPart part from to (now (ages .entry)) (now (ages .exit)) ⌝ }
 {
-    let mut i: usize = 0;
-    while i < due {
-        ages[i] = older(table[i], ages[i]);
+    let mut left = part;
+    let mut i = from;
+    while i < to {
+        ages[i] = older(left % 2, ages[i]);
+        left = left / 2;
         i += 1;
     }
+}
+
+// Where the part ends that begins at a record: after 64 records, or with the last.
+fn part_end(from: usize, count: usize) -> usize
+    requires { ⌜ (from ≤ count) × (count ≤ 256) ⌝ }
+    ensures { λ r. ⌜ r ≡ partEnd from count ⌝ }
+{
+    if count - from < 64 { count } else { from + 64 }
+}
+
+// The ages of all records, part after part.
+fn age_all(tested: Tested, ages: &mut [u16])
+    requires { ⌜ (tested .count ≤ 256) × (tested .count ≤ length (now ages)) ⌝ }
+    ensures { λ _. ⌜ AgedAll tested (now (ages .entry)) (now (ages .exit)) ⌝ }
+{
+    let mut k: usize = 0;
+    while k * 64 < tested.count {
+        let from = k * 64;
+        let to = part_end(from, tested.count);
+        age_part(tested.sinks[k], from, to, ages);
+        k += 1;
+    }
+}
+
+// 13; 4 for ages.
+pub(crate) fn tick(tested: Tested, ages: &mut [u16]) -> u32
+    requires { ⌜ TestedSome tested ⌝ }
+    ensures { λ r. ⌜ Ticked tested (now (ages .entry)) r (now (ages .exit)) ⌝ }
+{
+    let good = tested.good;
+    if !good {
+        return Refusal::TableNotGood.code();
+    }
+    if ages.len() < tested.count {
+        return Refusal::TooShort.code();
+    }
+    age_all(tested, ages);
+    0
 }
