@@ -353,6 +353,14 @@ look = record {
   one = λ κs a r s ws vs c d. (c ∙ sym d, refl);
 }
 
+pub test-table : Shown table.test-table
+test-table = record {
+  promised = λ M 𝓤 H 𝓜 𝓖 𝓡. port-table.test_table.Met.met 𝓤 H 𝓜 𝓖 𝓡;
+  says = said table.test-table _ (λ M 𝓤 H A mem run κs a. refl);
+  refusing = λ κs a r ws c. answers _;
+  one = λ κs a r s ws vs c d. (c ∙ sym d, refl);
+}
+
 pub mvb-arrive : Shown table.mvb-arrive
 mvb-arrive = record {
   promised = λ M 𝓤 H 𝓜 𝓖 𝓡. ports.mvb_arrive.Met.met 𝓤 H 𝓜 𝓖 𝓡;
@@ -476,4 +484,4 @@ mvb-search = record {
 -- all of them, in the order of the table
 pub rows : EachShown table.entryPoints
 rows =
-    (refusal-number, (refusal-code, (check-of, (check-of-word, (row-of, (master-read, (master-write, (slave-read, (slave-write, (line-answer, (mvb-check-of, (mvb-master-read, (mvb-master-write, (mvb-slave-read, (mvb-slave-write, (telegram-bits, (guard, (mvb-telegram-bits, (mvb-guard, (number-at, (reader-new, (reader-next, (read-number, (read-numbers, (sum-numbers, (cycles-of, (periods-of, (list-check, (basic-period, (list-text, (mvb-list-check, (mvb-basic-period, (mvb-list-text, (look, (mvb-arrive, (mvb-answer, (mvb-read, (mvb-fill, (mvb-tick, (bound, (is-group, (in-group, (round-start, (round-answer, (search-set, (mvb-round-start, (mvb-round-answer, (mvb-search, tt))))))))))))))))))))))))))))))))))))))))))))))))
+    (refusal-number, (refusal-code, (check-of, (check-of-word, (row-of, (master-read, (master-write, (slave-read, (slave-write, (line-answer, (mvb-check-of, (mvb-master-read, (mvb-master-write, (mvb-slave-read, (mvb-slave-write, (telegram-bits, (guard, (mvb-telegram-bits, (mvb-guard, (number-at, (reader-new, (reader-next, (read-number, (read-numbers, (sum-numbers, (cycles-of, (periods-of, (list-check, (basic-period, (list-text, (mvb-list-check, (mvb-basic-period, (mvb-list-text, (look, (test-table, (mvb-arrive, (mvb-answer, (mvb-read, (mvb-fill, (mvb-tick, (bound, (is-group, (in-group, (round-start, (round-answer, (search-set, (mvb-round-start, (mvb-round-answer, (mvb-search, tt)))))))))))))))))))))))))))))))))))))))))))))))))

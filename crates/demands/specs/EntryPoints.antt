@@ -211,6 +211,10 @@ mvb-list-text = record { ended = mvb.list_calls.mvb_list_text.ended; routine = m
 abbrev pub look : EntryPoint
 look = record { ended = port-table.look.ended; routine = port-table.look.Symbol.routine; promise = port-table.look.clauses; refuses = []; told = λ κs r. yesNo (r .good); at-exit = λ κs e. e }
 
+-- the goodness test alone: yes or no, the records and the sinks' bits
+abbrev pub test-table : EntryPoint
+test-table = record { ended = port-table.test_table.ended; routine = port-table.test_table.Symbol.routine; promise = port-table.test_table.clauses; refuses = []; told = λ κs r. gives (one (r .good) ∷ r .count ∷ r .sinks); at-exit = λ κs e. e }
+
 -- "a frame arrives for a sink"
 abbrev pub mvb-arrive : EntryPoint
 mvb-arrive = record { ended = ports.mvb_arrive.ended; routine = ports.mvb_arrive.Symbol.routine; promise = ports.mvb_arrive.clauses; refuses = 13 ∷ 4 ∷ 14 ∷ 15 ∷ 16 ∷ 17 ∷ 1 ∷ 2 ∷ []; told = λ κs r. toldCode r; at-exit = λ κs e. e }
@@ -272,4 +276,4 @@ mvb-search = record { ended = mvb.round_calls.mvb_search.ended; routine = mvb.ro
 -- all of them
 abbrev pub entryPoints : List EntryPoint
 entryPoints =
-    refusal-number ∷ refusal-code ∷ check-of ∷ check-of-word ∷ row-of ∷ master-read ∷ master-write ∷ slave-read ∷ slave-write ∷ line-answer ∷ mvb-check-of ∷ mvb-master-read ∷ mvb-master-write ∷ mvb-slave-read ∷ mvb-slave-write ∷ telegram-bits ∷ guard ∷ mvb-telegram-bits ∷ mvb-guard ∷ number-at ∷ reader-new ∷ reader-next ∷ read-number ∷ read-numbers ∷ sum-numbers ∷ cycles-of ∷ periods-of ∷ list-check ∷ basic-period ∷ list-text ∷ mvb-list-check ∷ mvb-basic-period ∷ mvb-list-text ∷ look ∷ mvb-arrive ∷ mvb-answer ∷ mvb-read ∷ mvb-fill ∷ mvb-tick ∷ bound ∷ is-group ∷ in-group ∷ round-start ∷ round-answer ∷ search-set ∷ mvb-round-start ∷ mvb-round-answer ∷ mvb-search ∷ []
+    refusal-number ∷ refusal-code ∷ check-of ∷ check-of-word ∷ row-of ∷ master-read ∷ master-write ∷ slave-read ∷ slave-write ∷ line-answer ∷ mvb-check-of ∷ mvb-master-read ∷ mvb-master-write ∷ mvb-slave-read ∷ mvb-slave-write ∷ telegram-bits ∷ guard ∷ mvb-telegram-bits ∷ mvb-guard ∷ number-at ∷ reader-new ∷ reader-next ∷ read-number ∷ read-numbers ∷ sum-numbers ∷ cycles-of ∷ periods-of ∷ list-check ∷ basic-period ∷ list-text ∷ mvb-list-check ∷ mvb-basic-period ∷ mvb-list-text ∷ look ∷ test-table ∷ mvb-arrive ∷ mvb-answer ∷ mvb-read ∷ mvb-fill ∷ mvb-tick ∷ bound ∷ is-group ∷ in-group ∷ round-start ∷ round-answer ∷ search-set ∷ mvb-round-start ∷ mvb-round-answer ∷ mvb-search ∷ []
