@@ -1,14 +1,14 @@
 -- The goodness test, way out by way out: from what it keeps of the records behind one to what it keeps with that one, and what it shows.
 -- Assumes nothing.
 use mathlib.Core.Path.{_≡_, refl, sym, ap, ap₂, _∙_, subst}
-use mathlib.Core.Bool.{Bool, true, false, not, cond, _&&_, and-eq-true-iff, and-false}
+use mathlib.Core.Bool.{Bool, true, false, not, cond, _&&_, and-false}
 use mathlib.Core.List.{List, [], _∷_}
 use Prim.Native.Nat.{ℕ, zero, suc, _+_, _*_, _%_, _/_, _^_, _≤_, _<_}
 use native.Mathlib.Nat.{pow-succ'}
 use native.Mathlib.Omega.{arith}
 use borrow.Author.Tests.{lt-ltb, le-ltb, le-leb, lt-leb, ltb-true, ltb-false, not-true, not-false}
 use lib.Dec.{eqb, ltb, leb}
-use lib.ListN.{length, getD, set, take, drop, length-set, length-take}
+use lib.ListN.{length, getD, set, take, drop, length-set}
 use lib.Pow.{pow-mono}
 use lib.Seq.{drop-cons, drop-length, ext-getD, getD-set-same, getD-set-other}
 use Rattle.checks.specs.Bits.{one}
@@ -18,7 +18,7 @@ use Rattle.port_table.specs.declared.goodness.Taken.{Taken}
 use Rattle.port_table.specs.Table.{rising, good, noPort, isSink}
 use Rattle.port_table.specs.Tested.{sinkBits, sinksPart, emptyTested, goodTested, testedOf}
 use Rattle.port_table.specs.Inside.{emptyTaken, sinkBit, lowest, Marked, Takes, OnTake, Tells}
-use Rattle.port_table.proofs.OneMore.{by-cases, good-split}
+use Rattle.port_table.proofs.OneMore.{by-cases}
 
 -- ---- what the test shows
 

@@ -1,7 +1,7 @@
 -- `port_table::goodness::step` meets its contract: an address not below the limit, a reserved F_code, the first record of a part, or another.
 -- Assumes nothing.
-use mathlib.Core.Path.{_≡_, sym, ap, subst}
-use Prim.Native.Nat.{ℕ, _+_, _*_, _/_}
+use mathlib.Core.Path.{sym, ap, subst}
+use Prim.Native.Nat.{ℕ, _+_, _*_}
 use native.Mathlib.Omega.{arith}
 use borrow.Author.Needs.{needs}
 use Rattle.port_table.specs.declared.Port.{Port}
