@@ -2,7 +2,6 @@
 -- Assumes nothing.
 use mathlib.Core.Path.{sym, subst}
 use borrow.Author.Needs.{needs}
-use Rattle.port_table.specs.declared.Seen.{Seen}
 use Rattle.port_table.specs.Inside.{Shows}
 use Rattle.port_table.proofs.Steps.{shown-many, shown-unordered, shown-high, shown-good}
 use Rattle.port_table.proofs.records.shown.Statement.{statement}

@@ -1,9 +1,6 @@
 -- `port_table::records::step` meets its contract: the record has the address, or it has not.
 -- Assumes nothing.
-use Prim.Native.Nat.{_+_, _*_, _≤_}
-use native.Mathlib.Omega.{arith}
 use borrow.Author.Needs.{needs}
-use lib.ListN.{length}
 use Rattle.port_table.proofs.Steps.{walks-found, walks-on}
 use Rattle.port_table.proofs.records.step.Statement.{statement}
 use Rattle.port_table.proofs.records.step.Tie as tie
