@@ -1,9 +1,8 @@
-// The goodness test takes the records from the last to the first: then each address must be below the one before, the
-// first below 4,096, and the bits of the sinks move up by one for each record.
+// The goodness test takes the records from the last to the first: then each address must be below the one taken before
+// it, the last record's below 4,096, and the bits of the sinks move up by one for each record.
 use crate::Tested;
 ghost use mathlib.Core.Path.{_≡_};
 ghost use mathlib.Core.Bool.{true, false};
-ghost use Rattle.checks.specs.Bits.{one};
 ghost use Rattle.port_table.specs.Tested.{emptyTested};
 ghost use Rattle.port_table.specs.Inside.{emptyTaken, sinkBit, OnTake, TakenOn, Tells};
 
@@ -46,7 +45,8 @@ fn sink_bit(sink: u8) -> u64
     if sink == 0 { 0 } else { 1 }
 }
 
-// Record i, by its fields: they are compared where they lie.
+// Record i, by its fields: they are compared where they lie. The index of a full part stands before the copy of the
+// parts: with the two copies first in their branches, the machine code would copy for every record.
 pub(crate) fn step(taken: Taken, i: usize, address: u16, f_code: u8, sink: u8) -> Taken
     requires { ⌜ OnTake taken i ⌝ }
     ensures { λ r. ⌜ TakenOn taken i address «f_code» sink r ⌝ }
