@@ -188,6 +188,11 @@ module _ (s : List ℕ) (ms j cycles : ℕ) (out₀ : List ℕ) where
       unfolding c later
       cycle-here = record { n = n; c = next .c; rest = written (cyclesNumbers (next .later)); small = small-n; power = inv .power; obeys = next .obeys; bytes = bytes-here }
 
+      -- nothing follows the last cycle
+      pub last-here : n + 1 ≡ cycles → cycle-here .rest ≡ []
+      unfolding cycle-here
+      last-here e = ap (λ (x : List Cycle). written (cyclesNumbers x)) (nothing-left (next .later) (omega (arith, all-of, inv .many, ap length (next .is))))
+
       pub sub-fits : SubFits (cycle-here .c) size (j % size) (length (take (length out - k) (drop k out)))
       unfolding c cycle-here
       sub-fits = (mod-lt j (omega (arith, inv .power, pow-pos n)), omega (arith, room-left, ap length sub-is, ap length rest-is, length-drop k out, inv .long))

@@ -2,11 +2,12 @@
 -- Assumes nothing.
 use Prim.Native.Nat.{ℕ, zero, suc, _+_, _-_, _≤_, _<_}
 use mathlib.Core.Path.{_≡_, refl, ap, sym, _∙_, subst}
+use mathlib.Core.Bool.{Bool, true, false}
 use mathlib.Core.List.{List, [], _∷_, _++_}
 use native.Mathlib.Omega.{arith}
 use lib.ListN.{length, getD, take, drop, length-take, length-drop, take-append-drop}
-use lib.Seq.{drop-drop, drop-cons, length-take-le}
-use Rattle.numbers.specs.Number.{sum}
+use lib.Seq.{drop-drop, drop-cons, drop-length, length-take-le}
+use Rattle.numbers.specs.Number.{sum, run}
 use Rattle.numbers.specs.Written.{written, Most}
 use Rattle.numbers.proofs.RunLaws.{Done, Added}
 use Rattle.numbers.proofs.ThereLaws.{most-left, most-right, cut-written, sum-there, read-there}
@@ -100,13 +101,15 @@ module _ (s : List ℕ) (at count size sub room : ℕ) (h : SplitHere s at count
       pub here-fits : t₃ ≤ room
       here-fits = omega (arith, here .0, own-fits)
 
-      module _ (t₄ p₄ : ℕ) (a₄ : Added s p₃ (size - sub - 1) t₄ p₄) (t₅ p₅ : ℕ) (a₅ : Added s at t₂ t₅ p₅) where
-        after-all : drop p₄ s ≡ h .rest
-        unfolding zs
-        after-all =
-            let l : size - sub - 1 ≡ length (drop (suc sub) zs) = omega (arith, length-drop (suc sub) zs, shape s at count size h .0) in
-            sum-there s (drop (suc sub) zs) (h .rest) p₃ (rest-most .1) (here .1) (size - sub - 1) t₄ p₄ l a₄ .1
+      -- the place after the cycle, or the list's end where nothing follows
+      pub after-all : (last : Bool) (p₄ : ℕ) → (last ≡ true → p₄ ≡ length s) × (last ≡ false → p₄ ≡ p₃ + run (size - sub - 1) (drop p₃ s) .used) → (last ≡ true → h .rest ≡ []) → drop p₄ s ≡ h .rest
+      unfolding zs
+      after-all true p₄ e none = ap (λ (p : ℕ). drop p s) (e .0 refl) ∙ drop-length s ∙ sym (none refl)
+      after-all false p₄ e none =
+          let l : size - sub - 1 ≡ length (drop (suc sub) zs) = omega (arith, length-drop (suc sub) zs, shape s at count size h .0) in
+          sum-there s (drop (suc sub) zs) (h .rest) p₃ (rest-most .1) (here .1) (size - sub - 1) (sum (run (size - sub - 1) (drop p₃ s) .values)) p₄ l (refl, e .1 refl) .1
 
+      module _ (p₄ : ℕ) (after : drop p₄ s ≡ h .rest) (t₅ p₅ : ℕ) (a₅ : Added s at t₂ t₅ p₅) where
         first-there : drop p₅ s ≡ written (drop from ws) ++ (written zs ++ h .rest)
         unfolding ws zs
         first-there =
@@ -122,7 +125,7 @@ module _ (s : List ℕ) (at count size sub room : ℕ) (h : SplitHere s at count
             let q : Most (drop from ws) = most-right (take from ws) (drop from ws) (subst Most (sym (take-append-drop from ws)) ws-most) in
             let m : Most u = most-left u v (subst Most (sym (take-append-drop own (drop from ws))) q) in
             let x = read-there s u (written v ++ (written zs ++ h .rest)) p₅ m (first-there ∙ cut-written own (drop from ws) (written zs ++ h .rest)) (take t₃ out) part k p₆ l d in
-            (here .0 ∙ sym own-long ∙ ap length (sym the-words), after-all, ap (λ (y : List ℕ). y ++ drop t₃ out) (x .0 ∙ sym the-words))
+            (here .0 ∙ sym own-long ∙ ap length (sym the-words), after, ap (λ (y : List ℕ). y ++ drop t₃ out) (x .0 ∙ sym the-words))
 
 -- ---- any cycle
 only-one : (ws : List ℕ) (sub : ℕ) → sub < 1 → getD (ws ∷ []) sub [] ≡ ws

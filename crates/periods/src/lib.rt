@@ -7,9 +7,11 @@ use numbers::read_numbers;
 use numbers::sum_numbers;
 use refusals::Refusal;
 ghost use mathlib.Core.Path.{_≡_};
+ghost use mathlib.Core.Bool.{true, false};
 ghost use mathlib.Core.List.{List, [], _∷_, _++_};
 ghost use Prim.Native.Nat.{ℕ, _+_, _≤_, _<_};
 ghost use lib.ListN.{length, drop};
+ghost use Rattle.numbers.specs.Number.{run};
 ghost use Rattle.refusals.specs.Told.{gives, refusal};
 ghost use Rattle.lists.specs.Values.{periodsOf};
 ghost use Rattle.periods.specs.Period.{periodBy, toldSent};
@@ -38,30 +40,46 @@ fn put(src: &[u16], out: &mut [u16])
     }
 }
 
+// The place after so many numbers; behind the last cycle, the list's end.
+fn place_after(list: &[u8], at: usize, left: u16, last: bool) -> usize
+    ensures { λ r. ⌜ (last ≡ true → r ≡ length (now (list .entry))) × (last ≡ false → r ≡ at + run left (drop at (now (list .entry))) .used) ⌝ }
+{
+    if last {
+        return list.len();
+    }
+    let numbers = sum_numbers(list, at, left);
+    numbers.next
+}
+
 // Subcycle sub of a cycle with split numbers, whose words start at a place: the words are passed over, the split numbers
 // added up, and the words of the Subcycle read.
-fn put_split(list: &[u8], at: usize, count: u16, size: u16, sub: u16, out: &mut [u16]) -> Part
+fn put_split(
+    list: &[u8],
+    at: usize,
+    count: u16,
+    size: u16,
+    sub: u16,
+    last: bool,
+    out: &mut [u16],
+) -> Part
     requires { ⌜ ((h : SplitHere (now list) at count size) × SubFits (h .c) size sub (length (now out))) ⌝ }
-    ensures { λ r. ⌜ ((h : SplitHere (now (list .entry)) at count size) → SubFits (h .c) size sub (length (now (out .entry)))
+    ensures { λ r. ⌜ ((h : SplitHere (now (list .entry)) at count size) → (last ≡ true → h .rest ≡ []) → SubFits (h .c) size sub (length (now (out .entry)))
         → PartSent (now (list .entry)) (h .c) sub (h .rest) (now (out .entry)) (now (out .exit)) (r .many) (r .next)) ⌝ }
 {
     let words = sum_numbers(list, at, count);
     let before = sum_numbers(list, words.next, sub);
     let here = sum_numbers(list, before.next, 1);
-    let after = sum_numbers(list, here.next, size - sub - 1);
+    let next = place_after(list, here.next, size - sub - 1, last);
     let first = sum_numbers(list, at, before.total as u16);
     let many = here.total;
     read_numbers(list, first.next, &mut out[..many]);
-    Part {
-        many,
-        next: after.next,
-    }
+    Part { many, next }
 }
 
-// Subcycle sub of the cycle at a place, with so many Subcycles: its words at the front of out.
-fn put_subcycle(list: &[u8], at: usize, size: u16, sub: u16, out: &mut [u16]) -> Part
+// Subcycle sub of the cycle at a place, with so many Subcycles, perhaps the last: its words at the front of out.
+fn put_subcycle(list: &[u8], at: usize, size: u16, sub: u16, last: bool, out: &mut [u16]) -> Part
     requires { ⌜ ((h : CycleHere (now list) at size) × SubFits (h .c) size sub (length (now out))) ⌝ }
-    ensures { λ r. ⌜ ((h : CycleHere (now (list .entry)) at size) → SubFits (h .c) size sub (length (now (out .entry)))
+    ensures { λ r. ⌜ ((h : CycleHere (now (list .entry)) at size) → (last ≡ true → h .rest ≡ []) → SubFits (h .c) size sub (length (now (out .entry)))
         → PartSent (now (list .entry)) (h .c) sub (h .rest) (now (out .entry)) (now (out .exit)) (r .many) (r .next)) ⌝ }
 {
     let c = sum_numbers(list, at, 1);
@@ -79,7 +97,7 @@ fn put_subcycle(list: &[u8], at: usize, size: u16, sub: u16, out: &mut [u16]) ->
             next: c.next,
         };
     }
-    put_split(list, c.next, count as u16, size, sub, out)
+    put_split(list, c.next, count as u16, size, sub, last, out)
 }
 
 // The words of Basic Period j of an accepted list, at the front of out: how many.
@@ -94,7 +112,8 @@ fn period_words(list: &[u8], ms: u16, j: u16, out: &mut [u16]) -> usize
     let mut n: usize = 0;
     let mut size: u16 = 1;
     while n < cycles {
-        let c = put_subcycle(list, p, size, j % size, &mut out[k..]);
+        let last = n + 1 == cycles;
+        let c = put_subcycle(list, p, size, j % size, last, &mut out[k..]);
         k += c.many;
         p = c.next;
         n += 1;

@@ -2,7 +2,7 @@
 -- Assumes nothing.
 use mathlib.Core.Path.{_≡_, refl, sym, ap, _∙_, subst}
 use mathlib.Core.Bool.{Bool, true, false, cond}
-use mathlib.Core.List.{List, [], _∷_, _++_}
+use mathlib.Core.List.{List, [], _∷_, _++_, append-nil}
 use Prim.Native.Nat.{ℕ, zero, suc, _+_, _-_, _*_, _^_, _≤_, _<_}
 use native.Mathlib.Omega.{arith}
 use lib.Dec.{leb}
@@ -21,11 +21,6 @@ use Rattle.search.proofs.Marks.{half-sum}
 pub none-in : (l : List ℕ) → length l ≡ 0 → l ≡ []
 none-in [] h = refl
 none-in (a ∷ l) h = absurd (omega arith)
-
--- nothing behind a list
-and-none : (l : List ℕ) → l ++ [] ≡ l
-and-none [] = refl
-and-none (a ∷ l) = ap (λ (k : List ℕ). a ∷ k) (and-none l)
 
 -- a group {M, C} was reached, with step 2^(12-M), that has the same devices as the first
 pub record Reached (S : ℕ → Bool) (m c step at : ℕ) : Type 0 where
@@ -91,7 +86,7 @@ module _ (bytes any : List ℕ) (m c : ℕ) (o : One bytes any 1) (n : length (d
           rest = k₀;
           wide = next-wide;
           group = in-lower k₀ at whole;
-          same = sym (and-none (devices S k₀ at)) ∙ ap (λ (k : List ℕ). devices S k₀ at ++ k) (sym z) ∙ both;
+          same = sym (append-nil (devices S k₀ at)) ∙ ap (λ (k : List ℕ). devices S k₀ at ++ k) (sym z) ∙ both;
         })
 
     -- the upper half has it

@@ -1,9 +1,10 @@
 -- `period_words` meets its promise: its loop by `PeriodLaws`.
 -- Assumes nothing.
 use borrow.Author.Needs.{needs}
+use borrow.Author.Tests.{eqb-true}
 use native.Mathlib.Omega.{arith}
 use Prim.Native.Nat.{_-_}
-use Rattle.periods.proofs.PeriodLaws.{Inv, after-header, start, end, size-fits, size-some, k-room, cycle-here, sub-fits, m-few, more}
+use Rattle.periods.proofs.PeriodLaws.{Inv, after-header, start, end, size-fits, size-some, k-room, cycle-here, sub-fits, last-here, m-few, more}
 use Rattle.periods.proofs.period_words.Statement.{statement}
 use Rattle.periods.proofs.period_words.Tie as tie
 
@@ -32,13 +33,13 @@ put-subcycle-requires : tie.Need-put-subcycle-requires Inv-loop μ-loop
 put-subcycle-requires c κs = (cycle-here (c .before .before .before .before .before .before .before .args .list .now) (c .before .before .before .before .before .before .before .args .ms) (c .before .before .before .before .before .before .before .args .j) (c .before .before .before .before .cycles-of .result) (c .before .before .before .before .before .before .before .args .out .now) _ _ _ _ _ (c .before .before .loop .inv) (c .before .loop-test .taken), sub-fits (c .before .before .before .before .before .before .before .args .list .now) (c .before .before .before .before .before .before .before .args .ms) (c .before .before .before .before .before .before .before .args .j) (c .before .before .before .before .cycles-of .result) (c .before .before .before .before .before .before .before .args .out .now) _ _ _ _ _ (c .before .before .loop .inv) (c .before .loop-test .taken))
 
 add-k : tie.Need-add-k Inv-loop μ-loop
-add-k c = record { fits = omega (arith, m-few (c .before .before .before .before .before .before .before .before .before .before .before .args .list .now) (c .before .before .before .before .before .before .before .before .before .before .before .args .ms) (c .before .before .before .before .before .before .before .before .before .before .before .args .j) (c .before .before .before .before .before .before .before .before .cycles-of .result) (c .before .before .before .before .before .before .before .before .before .before .before .args .out .now) _ _ _ _ _ (c .before .before .before .before .before .before .loop .inv) (c .before .before .before .before .before .loop-test .taken) _ (c .before .before .before .put-subcycle .result .many) (c .before .before .before .put-subcycle .result .next) (c .before .before .before .put-subcycle .ensures (cycle-here (c .before .before .before .before .before .before .before .before .before .before .before .args .list .now) (c .before .before .before .before .before .before .before .before .before .before .before .args .ms) (c .before .before .before .before .before .before .before .before .before .before .before .args .j) (c .before .before .before .before .before .before .before .before .cycles-of .result) (c .before .before .before .before .before .before .before .before .before .before .before .args .out .now) _ _ _ _ _ (c .before .before .before .before .before .before .loop .inv) (c .before .before .before .before .before .loop-test .taken)) (sub-fits (c .before .before .before .before .before .before .before .before .before .before .before .args .list .now) (c .before .before .before .before .before .before .before .before .before .before .before .args .ms) (c .before .before .before .before .before .before .before .before .before .before .before .args .j) (c .before .before .before .before .before .before .before .before .cycles-of .result) (c .before .before .before .before .before .before .before .before .before .before .before .args .out .now) _ _ _ _ _ (c .before .before .before .before .before .before .loop .inv) (c .before .before .before .before .before .loop-test .taken)))) }
+add-k c = record { fits = omega (arith, m-few (c .before .before .before .before .before .before .before .before .before .before .before .args .list .now) (c .before .before .before .before .before .before .before .before .before .before .before .args .ms) (c .before .before .before .before .before .before .before .before .before .before .before .args .j) (c .before .before .before .before .before .before .before .before .cycles-of .result) (c .before .before .before .before .before .before .before .before .before .before .before .args .out .now) _ _ _ _ _ (c .before .before .before .before .before .before .loop .inv) (c .before .before .before .before .before .loop-test .taken) _ (c .before .before .before .put-subcycle .result .many) (c .before .before .before .put-subcycle .result .next) (c .before .before .before .put-subcycle .ensures (cycle-here (c .before .before .before .before .before .before .before .before .before .before .before .args .list .now) (c .before .before .before .before .before .before .before .before .before .before .before .args .ms) (c .before .before .before .before .before .before .before .before .before .before .before .args .j) (c .before .before .before .before .before .before .before .before .cycles-of .result) (c .before .before .before .before .before .before .before .before .before .before .before .args .out .now) _ _ _ _ _ (c .before .before .before .before .before .before .loop .inv) (c .before .before .before .before .before .loop-test .taken)) (λ e. last-here (c .before .before .before .before .before .before .before .before .before .before .before .args .list .now) (c .before .before .before .before .before .before .before .before .before .before .before .args .ms) (c .before .before .before .before .before .before .before .before .before .before .before .args .j) (c .before .before .before .before .before .before .before .before .cycles-of .result) (c .before .before .before .before .before .before .before .before .before .before .before .args .out .now) _ _ _ _ _ (c .before .before .before .before .before .before .loop .inv) (c .before .before .before .before .before .loop-test .taken) (eqb-true _ _ e)) (sub-fits (c .before .before .before .before .before .before .before .before .before .before .before .args .list .now) (c .before .before .before .before .before .before .before .before .before .before .before .args .ms) (c .before .before .before .before .before .before .before .before .before .before .before .args .j) (c .before .before .before .before .before .before .before .before .cycles-of .result) (c .before .before .before .before .before .before .before .before .before .before .before .args .out .now) _ _ _ _ _ (c .before .before .before .before .before .before .loop .inv) (c .before .before .before .before .before .loop-test .taken)))) }
 
 add-size : tie.Need-add-size Inv-loop μ-loop
 add-size c = record { fits = omega (arith, size-fits (c .before .before .before .before .before .before .before .before .before .before .before .args .list .now) (c .before .before .before .before .before .before .before .before .before .before .before .args .ms) (c .before .before .before .before .before .before .before .before .before .before .before .args .j) (c .before .before .before .before .before .before .before .before .cycles-of .result) (c .before .before .before .before .before .before .before .before .before .before .before .args .out .now) _ _ _ _ _ (c .before .before .before .before .before .before .loop .inv) (c .before .before .before .before .before .loop-test .taken)) }
 
 loop-again : tie.Need-loop-again Inv-loop μ-loop
-loop-again c = more (c .before .before .before .before .before .before .before .before .before .before .before .args .list .now) (c .before .before .before .before .before .before .before .before .before .before .before .args .ms) (c .before .before .before .before .before .before .before .before .before .before .before .args .j) (c .before .before .before .before .before .before .before .before .cycles-of .result) (c .before .before .before .before .before .before .before .before .before .before .before .args .out .now) _ _ _ _ _ (c .before .before .before .before .before .before .loop .inv) (c .before .before .before .before .before .loop-test .taken) _ (c .before .before .before .put-subcycle .result .many) (c .before .before .before .put-subcycle .result .next) (c .before .before .before .put-subcycle .ensures (cycle-here (c .before .before .before .before .before .before .before .before .before .before .before .args .list .now) (c .before .before .before .before .before .before .before .before .before .before .before .args .ms) (c .before .before .before .before .before .before .before .before .before .before .before .args .j) (c .before .before .before .before .before .before .before .before .cycles-of .result) (c .before .before .before .before .before .before .before .before .before .before .before .args .out .now) _ _ _ _ _ (c .before .before .before .before .before .before .loop .inv) (c .before .before .before .before .before .loop-test .taken)) (sub-fits (c .before .before .before .before .before .before .before .before .before .before .before .args .list .now) (c .before .before .before .before .before .before .before .before .before .before .before .args .ms) (c .before .before .before .before .before .before .before .before .before .before .before .args .j) (c .before .before .before .before .before .before .before .before .cycles-of .result) (c .before .before .before .before .before .before .before .before .before .before .before .args .out .now) _ _ _ _ _ (c .before .before .before .before .before .before .loop .inv) (c .before .before .before .before .before .loop-test .taken))) (c .before .before .before .put-subcycle .kept .1 .1 .1 .1 .0)
+loop-again c = more (c .before .before .before .before .before .before .before .before .before .before .before .args .list .now) (c .before .before .before .before .before .before .before .before .before .before .before .args .ms) (c .before .before .before .before .before .before .before .before .before .before .before .args .j) (c .before .before .before .before .before .before .before .before .cycles-of .result) (c .before .before .before .before .before .before .before .before .before .before .before .args .out .now) _ _ _ _ _ (c .before .before .before .before .before .before .loop .inv) (c .before .before .before .before .before .loop-test .taken) _ (c .before .before .before .put-subcycle .result .many) (c .before .before .before .put-subcycle .result .next) (c .before .before .before .put-subcycle .ensures (cycle-here (c .before .before .before .before .before .before .before .before .before .before .before .args .list .now) (c .before .before .before .before .before .before .before .before .before .before .before .args .ms) (c .before .before .before .before .before .before .before .before .before .before .before .args .j) (c .before .before .before .before .before .before .before .before .cycles-of .result) (c .before .before .before .before .before .before .before .before .before .before .before .args .out .now) _ _ _ _ _ (c .before .before .before .before .before .before .loop .inv) (c .before .before .before .before .before .loop-test .taken)) (λ e. last-here (c .before .before .before .before .before .before .before .before .before .before .before .args .list .now) (c .before .before .before .before .before .before .before .before .before .before .before .args .ms) (c .before .before .before .before .before .before .before .before .before .before .before .args .j) (c .before .before .before .before .before .before .before .before .cycles-of .result) (c .before .before .before .before .before .before .before .before .before .before .before .args .out .now) _ _ _ _ _ (c .before .before .before .before .before .before .loop .inv) (c .before .before .before .before .before .loop-test .taken) (eqb-true _ _ e)) (sub-fits (c .before .before .before .before .before .before .before .before .before .before .before .args .list .now) (c .before .before .before .before .before .before .before .before .before .before .before .args .ms) (c .before .before .before .before .before .before .before .before .before .before .before .args .j) (c .before .before .before .before .before .before .before .before .cycles-of .result) (c .before .before .before .before .before .before .before .before .before .before .before .args .out .now) _ _ _ _ _ (c .before .before .before .before .before .before .loop .inv) (c .before .before .before .before .before .loop-test .taken))) (c .before .before .before .put-subcycle .kept .1 .1 .1 .1 .1 .0)
 
 returns : tie.Need-returns Inv-loop μ-loop
 returns c = end (c .before .before .before .before .before .before .args .list .now) (c .before .before .before .before .before .before .args .ms) (c .before .before .before .before .before .before .args .j) (c .before .before .before .cycles-of .result) (c .before .before .before .before .before .before .args .out .now) _ _ _ _ _ (c .before .loop .inv) (c .loop-test .left)
@@ -52,6 +53,7 @@ period-words-spec =
     (λ c κs. search needs)
     (λ c κs. search needs)
     loop-holds
+    (λ c. search needs)
     rem-put-subcycle
     mul-put-subcycle
     sub-put-subcycle

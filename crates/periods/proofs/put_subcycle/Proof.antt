@@ -16,10 +16,10 @@ slice-aggregate-read-numbers : tie.Need-slice-aggregate-read-numbers
 slice-aggregate-read-numbers c = sym (length-take-le _ _ (all-fits (c .before .before .before .before .before .args .list .now) (c .before .before .before .before .before .args .at) (c .before .before .before .before .before .args .size) (c .before .before .before .before .before .args .sub) _ (c .before .before .before .before .before .pre .0) (c .before .before .before .before .before .pre .1) _ _ (c .before .before .sum-numbers .ensures) (c .before .if1 .taken)))
 
 returns : tie.Need-returns
-returns c h f = all-sent (c .before .before .before .before .before .before .before .before .args .list .now) (c .before .before .before .before .before .before .before .before .args .at) (c .before .before .before .before .before .before .before .before .args .size) (c .before .before .before .before .before .before .before .before .args .sub) _ h f _ _ (c .before .before .before .before .before .sum-numbers .ensures) (c .before .before .before .before .if1 .taken) (c .before .before .before .before .before .before .before .before .args .out .now) _ _ _ refl (c .before .before .read-numbers .ensures)
+returns c h none f = all-sent (c .before .before .before .before .before .before .before .before .args .list .now) (c .before .before .before .before .before .before .before .before .args .at) (c .before .before .before .before .before .before .before .before .args .size) (c .before .before .before .before .before .before .before .before .args .sub) _ h f _ _ (c .before .before .before .before .before .sum-numbers .ensures) (c .before .before .before .before .if1 .taken) (c .before .before .before .before .before .before .before .before .args .out .now) _ _ _ refl (c .before .before .read-numbers .ensures)
 
 returns-2 : tie.Need-returns-2
-returns-2 c h f = none-sent (c .before .before .before .before .before .args .list .now) (c .before .before .before .before .before .args .at) (c .before .before .before .before .before .args .size) (c .before .before .before .before .before .args .sub) _ h f _ _ (c .before .before .sum-numbers .ensures) (c .if2 .taken) _
+returns-2 c h none f = none-sent (c .before .before .before .before .before .args .list .now) (c .before .before .before .before .before .args .at) (c .before .before .before .before .before .args .size) (c .before .before .before .before .before .args .sub) _ h f _ _ (c .before .before .sum-numbers .ensures) (c .if2 .taken) _
 
 cast-put-split : tie.Need-cast-put-split
 cast-put-split c = omega (arith, count-small (c .before .before .before .before .before .args .list .now) (c .before .before .before .before .before .args .at) (c .before .before .before .before .before .args .size) (c .before .before .before .before .before .pre .0) _ _ (c .before .before .sum-numbers .ensures))
@@ -28,7 +28,7 @@ put-split-requires : tie.Need-put-split-requires
 put-split-requires c κs = (split-here (c .before .before .before .before .before .before .args .list .now) (c .before .before .before .before .before .before .args .at) (c .before .before .before .before .before .before .args .size) (c .before .before .before .before .before .before .pre .0) _ _ (c .before .before .before .sum-numbers .ensures) (c .before .before .if1 .left) (c .before .if2 .left), c .before .before .before .before .before .before .pre .1)
 
 returns-3 : tie.Need-returns-3
-returns-3 c h f = c .before .before .put-split .ensures (split-here (c .before .before .before .before .before .before .before .before .before .args .list .now) (c .before .before .before .before .before .before .before .before .before .args .at) (c .before .before .before .before .before .before .before .before .before .args .size) h _ _ (c .before .before .before .before .before .before .sum-numbers .ensures) (c .before .before .before .before .before .if1 .left) (c .before .before .before .before .if2 .left)) f
+returns-3 c h none f = c .before .before .put-split .ensures (split-here (c .before .before .before .before .before .before .before .before .before .args .list .now) (c .before .before .before .before .before .before .before .before .before .args .at) (c .before .before .before .before .before .before .before .before .before .args .size) h _ _ (c .before .before .before .before .before .before .sum-numbers .ensures) (c .before .before .before .before .before .if1 .left) (c .before .before .before .before .if2 .left)) none f
 
 pub put-subcycle-spec : {M : Type 1} → statement M
 put-subcycle-spec =
