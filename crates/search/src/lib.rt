@@ -250,7 +250,8 @@ fn lone(any: &[u8; 1024], m: usize, c: usize) -> u16
     at as u16
 }
 
-// 2^(12-M): the marks of M begin there, and the upper half of {M, C} is {M-1, C + 2^(12-M)}.
+// 2^(12-M), as `groups::bound` has it, without its test: the marks of M begin there, and the upper half of {M, C} is
+// {M-1, C + 2^(12-M)}.
 fn first_mark(m: usize) -> usize
     requires { ⌜ m ≤ 12 ⌝ }
     ensures { λ r. ⌜ r ≡ 2 ^ (12 - m) ⌝ }
