@@ -1,16 +1,19 @@
--- The check bits of a number are the sum of those of its parts, four bits each.
+-- The check bits of a number are the sum of those of its parts, four bits each; a word's high bits first join its low ones.
 -- Assumes nothing.
-use mathlib.Core.Path.{_≡_, sym, ap, ap₂, _∙_}
+use mathlib.Core.Path.{_≡_, refl, sym, ap, ap₂, _∙_}
 use Prim.Native.Nat.{ℕ, _+_, _*_, _/_, _%_, _^_, _<_}
 use native.Mathlib.Omega.{arith}
-use lib.Bits.{bitXor, xor-shifted}
+use lib.Bits.{bitXor, xor-comm, xor-lt, xor-shifted}
+use lib.Count.{ones, onesIn}
+use lib.Dec.{T, eqb, eqb→eq}
 use Rattle.checks.specs.Bits.{bits, number}
-use Rattle.checks.specs.Check.{plain}
+use Rattle.checks.specs.Check.{plain, remainder}
 use Rattle.checks.proofs.Polynomials.{same}
-use Rattle.checks.proofs.Numbers.{length-bits, bits-xor}
+use Rattle.checks.proofs.Numbers.{length-bits, bits-xor, number-byte-lt}
+use Rattle.checks.proofs.Tests.{upto, at-upto}
 use Rattle.checks.proofs.Parity.{length-plain}
 use Rattle.checks.proofs.Distance.{plain-add}
-use Rattle.checks.proofs.Runs.{number-add}
+use Rattle.checks.proofs.Runs.{number-add, xor-assoc}
 
 -- what a number of 64 bits leaves
 abbrev pub left : ℕ → ℕ
@@ -43,13 +46,6 @@ twelve v m k e ep eb ec ed =
     (more 12 k m (v / 2 ^ 8 % 16 * 2 ^ 8) e (omega arith) ep eb) ec) ed
     ∙ ap left (let s : m + v / 2 ^ 8 % 16 * 2 ^ 8 + v / 2 ^ 4 % 16 * 2 ^ 4 + v % 16 ≡ m + v % 4096 = omega arith in s)
 
-pub of-word : (v : ℕ) {a b c d : ℕ} → v < 65536
-    → a ≡ left (v / 2 ^ 12 % 16 * 2 ^ 12) → b ≡ left (v / 2 ^ 8 % 16 * 2 ^ 8) → c ≡ left (v / 2 ^ 4 % 16 * 2 ^ 4) → d ≡ left (v % 16)
-    → bitXor (bitXor (bitXor a b) c) d ≡ left v
-of-word v h ea eb ec ed =
-    twelve v (v / 2 ^ 12 % 16 * 2 ^ 12) (v / 2 ^ 12 % 16) (omega arith) ea eb ec ed
-    ∙ ap left (let s : v / 2 ^ 12 % 16 * 2 ^ 12 + v % 4096 ≡ v = omega arith in s)
-
 pub of-three : (v : ℕ) {a b c d e f : ℕ} → v < 16777216
     → a ≡ left (v / 2 ^ 20 % 16 * 2 ^ 20) → b ≡ left (v / 2 ^ 16 % 16 * 2 ^ 16) → c ≡ left (v / 2 ^ 12 % 16 * 2 ^ 12)
     → d ≡ left (v / 2 ^ 8 % 16 * 2 ^ 8) → e ≡ left (v / 2 ^ 4 % 16 * 2 ^ 4) → f ≡ left (v % 16)
@@ -64,3 +60,42 @@ of-three v h ea eb ec ed ee ef =
     let upper : v / 2 ^ 20 % 16 * 16 + v / 2 ^ 16 % 16 ≡ v / 2 ^ 16 = omega arith in
     let s : v / 2 ^ 20 % 16 * 2 ^ 20 + v / 2 ^ 16 % 16 * 2 ^ 16 + v / 2 ^ 12 % 16 * 2 ^ 12 + v % 4096 ≡ v = omega arith in
     s)
+
+pub of-two : (x y : ℕ) {a b c : ℕ} → x < 256 → y < 256 → a ≡ left (x / 2 ^ 4 * 2 ^ 12) → b ≡ left (x % 16 * 2 ^ 8) → c ≡ left y → bitXor (bitXor a b) c ≡ left (x * 256 + y)
+of-two x y hx hy ea eb ec =
+    more 8 x (x / 2 ^ 4 * 2 ^ 12 + x % 16 * 2 ^ 8) y (omega arith) hy (more 12 (x / 2 ^ 4) (x / 2 ^ 4 * 2 ^ 12) (x % 16 * 2 ^ 8) refl (omega arith) ea eb) ec
+    ∙ ap left (let s : x / 2 ^ 4 * 2 ^ 12 + x % 16 * 2 ^ 8 + y ≡ x * 256 + y = omega arith in s)
+
+-- ---- a word
+left-lt : (n : ℕ) → left n < 256
+left-lt n = number-byte-lt (plain (bits 64 n)) (length-plain (bits 64 n))
+
+-- the high bits with their double
+abbrev twice : ℕ → ℕ
+twice high = bitXor high (high * 2 % 18446744073709551616)
+
+-- what is left of the high bits: the seven low bits of their double sum, and their parity
+abbrev gone : ℕ → ℕ
+gone high = twice high % 128 * 2 + ones high % 2
+
+-- x^14 and x + 1 leave one remainder: computed for each value of nine bits
+every-high : T (upto 512 (λ (h : ℕ). eqb (bitXor (gone h) (left (twice h / 128))) (left (h * 2 ^ 7))))
+unfolding bits plain remainder ones onesIn
+every-high = tt
+
+high-left : (h : ℕ) → h < 512 → bitXor (gone h) (left (twice h / 128)) ≡ left (h * 2 ^ 7)
+high-left h l = eqb→eq _ _ (at-upto 512 (λ (h : ℕ). eqb (bitXor (gone h) (left (twice h / 128))) (left (h * 2 ^ 7))) every-high h l)
+
+-- what joins the low bits fits in a byte
+pub joined-lt : (v : ℕ) → v < 65536 → bitXor (v % 128) (twice (v / 128) / 128) < 256
+joined-lt v l = xor-lt 8 (v % 128) (twice (v / 128) / 128) (omega arith) (omega (arith, xor-lt 10 (v / 128) (v / 128 * 2 % 18446744073709551616) (omega arith) (omega arith)))
+
+pub of-word : (v : ℕ) {p : ℕ} → v < 65536 → p ≡ left (bitXor (v % 128) (twice (v / 128) / 128)) → bitXor (gone (v / 128)) p ≡ left v
+of-word v l e =
+    let h : ℕ = v / 128 in
+    let high : h < 512 = omega arith in
+    let t : ℕ = twice h / 128 in
+    ap (bitXor (gone h)) (e ∙ ap left (xor-comm (v % 128) t) ∙ sym (left-xor t (v % 128)))
+    ∙ xor-assoc (gone h) (left t) (left (v % 128)) (omega arith) (left-lt t) (left-lt (v % 128))
+    ∙ more 7 h (h * 2 ^ 7) (v % 128) refl (omega arith) (high-left h high) refl
+    ∙ ap left (let s : h * 2 ^ 7 + v % 128 ≡ v = omega arith in s)

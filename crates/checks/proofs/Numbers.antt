@@ -142,7 +142,7 @@ number-more : (bytes : List ℕ) (i n b : ℕ) → i < length bytes → n ≡ nu
 number-more bytes i n b h e w = rw (e, w .0) (number-next bytes i h (rw (sym (w .0)) (w .1)))
 
 -- two bytes
-number-pair : (bytes : List ℕ) (a b : ℕ) → 2 ≤ length bytes → IsByte a bytes 0 → IsByte b bytes 1 → a * 256 + b ≡ number (bitsOf (take 2 bytes))
+pub number-pair : (bytes : List ℕ) (a b : ℕ) → 2 ≤ length bytes → IsByte a bytes 0 → IsByte b bytes 1 → a * 256 + b ≡ number (bitsOf (take 2 bytes))
 number-pair bytes a b h wa wb =
     number-more bytes 1 a b (omega arith) (sym (zero-add a) ∙ number-more bytes 0 0 a (omega arith) refl wa) wb
 

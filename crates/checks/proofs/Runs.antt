@@ -2,16 +2,16 @@
 -- Assumes nothing.
 use mathlib.Core.Path.{_≡_, refl, sym, ap, ap₂, _∙_, subst}
 use mathlib.Core.Bool.{Bool, true, false, not}
-use mathlib.Core.List.{List, [], _∷_, _++_, map, append-assoc}
+use mathlib.Core.List.{List, [], _∷_, _++_, map, append-assoc, append-nil}
 use Prim.Native.Nat.{ℕ, zero, suc, _+_, _-_, _*_, _/_, _%_, _^_, _≤_, _<_}
 use native.Mathlib.Nat.{pow-succ'}
 use native.Mathlib.Omega.{arith}
-use lib.Bits.{bitXor, xor-lt}
+use lib.Bits.{bitXor, xor-lt, xor-block, xor-zero-r, xor-comm}
 use lib.ListN.{length, replicate, length-append, length-replicate}
 use Rattle.checks.specs.Bits.{bits, bitsOf, one, number}
 use Rattle.checks.specs.Check.{plus, add, divided, remainder, odd, plain, checkBits, checkOf}
-use Rattle.checks.proofs.Polynomials.{same, plus-false, add-append, add-comm, zeros-add, length-add, divided-zeros, divided-more, mix, length-remainder}
-use Rattle.checks.proofs.Numbers.{length-bits, length-bitsOf, bits-number, bits-xor, one-lt, number-lt, number-append, number-byte, byte-number, number-byte-lt, bitsOf-snoc}
+use Rattle.checks.proofs.Polynomials.{same, plus-false, add-append, add-assoc, add-comm, zeros-add, length-add, divided-zeros, divided-more, mix, length-remainder}
+use Rattle.checks.proofs.Numbers.{length-bits, length-bitsOf, bits-number, bits-xor, one-lt, number-lt, number-append, number-byte, number-pair, byte-number, number-byte-lt, bitsOf-snoc}
 use Rattle.checks.proofs.Parity.{odd-append, odd-add, odd-zeros, length-plain}
 use Rattle.checks.proofs.Shifts.{bits-small}
 
@@ -126,6 +126,14 @@ number-add a b ha hb =
     sym (number-byte (bitXor (number a) (number b)) (xor-lt 8 (number a) (number b) (number-byte-lt a ha) (number-byte-lt b hb)))
     ∙ ap number (bits-xor 8 (number a) (number b) ∙ ap₂ add (byte-number a ha) (byte-number b hb))
 
+pub xor-assoc : (x y z : ℕ) → x < 256 → y < 256 → z < 256 → bitXor x (bitXor y z) ≡ bitXor (bitXor x y) z
+xor-assoc x y z hx hy hz =
+    sym (number-byte (bitXor x (bitXor y z)) (xor-lt 8 x (bitXor y z) hx (xor-lt 8 y z hy hz)))
+    ∙ ap number (bits-xor 8 x (bitXor y z) ∙ ap (add (bits 8 x)) (bits-xor 8 y z)
+    ∙ add-assoc (bits 8 x) (same (bits 8 y) (bits 8 z) (length-bits 8 y ∙ sym (length-bits 8 z)))
+    ∙ sym (bits-xor 8 (bitXor x y) z ∙ ap (λ (l : List Bool). add l (bits 8 z)) (bits-xor 8 x y)))
+    ∙ number-byte (bitXor (bitXor x y) z) (xor-lt 8 (bitXor x y) z (xor-lt 8 x y hx hy) hz)
+
 lone : (b : Bool) → one b ≡ number (replicate 7 false ++ (b ∷ []))
 lone true = refl
 lone false = refl
@@ -155,6 +163,46 @@ plain-next bytes byte p r h e g =
     ∙ number-add (plain x) (replicate 7 false ++ (o ∷ [])) (length-plain x) refl
     ∙ ap number (sym (plain-more m b 1 (length-bits 8 byte)))
     ∙ ap (λ (l : List Bool). number (plain l)) (sym (bitsOf-snoc bytes byte))
+
+-- a bit more changes the last bit alone
+pub last-bit-xor : (r b : ℕ) → b < 2 → bitXor r b ≡ r / 2 * 2 + bitXor (r % 2) b
+last-bit-xor r b h =
+    ap₂ bitXor (let s : r ≡ r / 2 * 2 ^ 1 + r % 2 = omega arith in s) (let s : b ≡ 0 * 2 ^ 1 + b = omega arith in s)
+    ∙ xor-block 1 (r / 2) 0 (r % 2) b (omega arith) h
+    ∙ ap (λ (x : ℕ). x * 2 + bitXor (r % 2) b) (xor-zero-r (r / 2))
+
+one-byte : (byte : ℕ) → byte < 256 → byte ≡ number (bitsOf (byte ∷ []))
+one-byte byte h = sym (ap number (append-nil (bits 8 byte)) ∙ number-byte byte h)
+
+-- two bytes at once: as one after the other
+pub plain-two : (bytes : List ℕ) (x y rest parity r : ℕ) → x < 256 → y < 256 → rest % 2 ≡ 0 → parity < 2 → rest + parity ≡ number (plain (bitsOf bytes))
+    → r ≡ number (plain (bits 64 (bitXor rest x * 256 + y))) → bitXor r parity ≡ number (plain (bitsOf (bytes ++ (x ∷ y ∷ []))))
+plain-two bytes x y rest parity r hx hy even hp e g =
+    let small : rest + parity < 256 = rw e (number-byte-lt (plain (bitsOf bytes)) (length-plain (bitsOf bytes))) in
+    let j : ℕ = bitXor rest x in
+    let hj : j < 256 = xor-lt 8 rest x (omega arith) hx in
+    let r₁ : ℕ = number (plain (bits 64 j)) in
+    let h₁ : r₁ < 256 = number-byte-lt (plain (bits 64 j)) (length-plain (bits 64 j)) in
+    let r₂ : ℕ = number (plain (bits 64 (bitXor (r₁ - r₁ % 2) y))) in
+    let h₂ : r₂ < 256 = number-byte-lt (plain (bits 64 (bitXor (r₁ - r₁ % 2) y))) (length-plain (bits 64 (bitXor (r₁ - r₁ % 2) y))) in
+    let b : bitXor (r₁ % 2) parity < 2 = xor-lt 1 (r₁ % 2) parity (omega arith) hp in
+    let p₁ : bitXor r₁ parity ≡ r₁ / 2 * 2 + bitXor (r₁ % 2) parity = last-bit-xor r₁ parity hp in
+    let rest-is : (rest + parity) - (rest + parity) % 2 ≡ rest = omega arith in
+    let parity-is : (rest + parity) % 2 ≡ parity = omega arith in
+    let first : bitXor r₁ parity ≡ number (plain (bitsOf (bytes ++ (x ∷ [])))) =
+    ap (bitXor r₁) (sym parity-is)
+    ∙ plain-next bytes x (rest + parity) r₁ hx e (ap (λ (n : ℕ). number (plain (bits 64 (bitXor n x)))) (sym rest-is)) in
+    let second : bitXor r₂ (bitXor (r₁ % 2) parity) ≡ number (plain (bitsOf ((bytes ++ (x ∷ [])) ++ (y ∷ [])))) =
+    ap (bitXor r₂) (let s : bitXor (r₁ % 2) parity ≡ bitXor r₁ parity % 2 = omega (arith, p₁, b) in s)
+    ∙ plain-next (bytes ++ (x ∷ [])) y (bitXor r₁ parity) r₂ hy first
+    (ap (λ (n : ℕ). number (plain (bits 64 (bitXor n y)))) (let s : r₁ - r₁ % 2 ≡ bitXor r₁ parity - bitXor r₁ parity % 2 = omega (arith, p₁, b) in s)) in
+    let both : r ≡ bitXor r₂ (r₁ % 2) =
+    plain-first (j ∷ y ∷ []) (j * 256 + y) r (omega arith) (number-pair (j ∷ y ∷ []) j y (omega arith) (refl, hj) (refl, hy)) g
+    ∙ sym (plain-next (j ∷ []) y r₁ r₂ hy (plain-first (j ∷ []) j r₁ (omega arith) (one-byte j hj) refl) refl) in
+    ap (λ (n : ℕ). bitXor n parity) both
+    ∙ sym (xor-assoc r₂ (r₁ % 2) parity h₂ (omega arith) (omega arith))
+    ∙ second
+    ∙ ap (λ (l : List ℕ). number (plain (bitsOf l))) (append-assoc bytes (x ∷ []) (y ∷ []))
 
 -- ---- the check sequence
 

@@ -196,14 +196,6 @@ fn plain_of(v: u64) -> u8
     high ^ from_8((v >> 8) % 16) ^ from_4((v >> 4) % 16) ^ from_0(v % 16)
 }
 
-// What a word leaves.
-fn plain_of_word(v: u64) -> u8
-    requires { ⌜ v < 65536 ⌝ }
-    ensures { λ r. ⌜ r ≡ number (plain (bits 64 v)) ⌝ }
-{
-    from_12((v >> 12) % 16) ^ from_8((v >> 8) % 16) ^ from_4((v >> 4) % 16) ^ from_0(v % 16)
-}
-
 // What a byte leaves.
 fn plain_of_byte(v: u64) -> u8
     requires { ⌜ v < 256 ⌝ }
@@ -212,19 +204,45 @@ fn plain_of_byte(v: u64) -> u8
     from_4((v >> 4) % 16) ^ from_0(v % 16)
 }
 
-// The check bits of a block of any length, byte by byte: the remainder so far joins the next byte,
-// the parity so far joins its parity.
+// What a word leaves. x^14 and x + 1 leave one remainder, so that the word's nine high bits join the others with
+// their double; only their own parity is left of them.
+fn plain_of_word(v: u64) -> u8
+    requires { ⌜ v < 65536 ⌝ }
+    ensures { λ r. ⌜ r ≡ number (plain (bits 64 v)) ⌝ }
+{
+    let high = v >> 7;
+    let twice = high ^ (high << 1);
+    let parity = u64::count_ones(high) % 2;
+    let low = (v % 128) ^ (twice >> 7);
+    ((twice % 128 * 2) as u8 + parity as u8) ^ plain_of_byte(low)
+}
+
+// What two bytes leave. The lookups do not wait for each other, as those of one byte after the other do.
+fn plain_of_two(first: u64, second: u64) -> u8
+    requires { ⌜ (first < 256) × (second < 256) ⌝ }
+    ensures { λ r. ⌜ r ≡ number (plain (bits 64 (first * 256 + second))) ⌝ }
+{
+    from_12(first >> 4) ^ from_8(first % 16) ^ plain_of_byte(second)
+}
+
+// The check bits of a block of any length, two bytes at a time: the remainder so far joins the next byte, the parity
+// so far joins theirs.
 fn plain_by_bytes(block: &[u8]) -> u64
     ensures { λ r. ⌜ (r ≡ number (plain (bitsOf (now (block .entry))))) × (r < 256) ⌝ }
 {
-    let mut plain: u64 = 0;
+    let mut rest: u64 = 0;
+    let mut parity: u64 = 0;
     let mut i = 0;
-    while i < block.len() {
-        let parity = plain % 2;
-        plain = wide(plain_of_byte((plain - parity) ^ wide(block[i]))) ^ parity;
-        i += 1;
+    while i + 1 < block.len() {
+        let plain = wide(plain_of_two(rest ^ wide(block[i]), wide(block[i + 1])));
+        rest = plain / 2 * 2;
+        parity = parity ^ plain % 2;
+        i += 2;
     }
-    plain
+    if i < block.len() {
+        return wide(plain_of_byte(rest ^ wide(block[i]))) ^ parity;
+    }
+    rest + parity
 }
 
 // The check sequence of a word, a block of two bytes.
@@ -241,8 +259,10 @@ pub fn check_of(block: &[u8]) -> u8
     if block.len() == 2 {
         return check_of_word(word_of(block[0], block[1]));
     }
-    if block.len() == 8 {
-        return 255 - plain_of(folded(four(&block[..4]), four(&block[4..])));
-    }
-    (255 - plain_by_bytes(block)) as u8
+    let plain = if block.len() == 8 {
+        wide(plain_of(folded(four(&block[..4]), four(&block[4..]))))
+    } else {
+        plain_by_bytes(block)
+    };
+    (255 - plain) as u8
 }

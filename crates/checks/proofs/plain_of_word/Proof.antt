@@ -1,12 +1,17 @@
--- `checks::plain_of_word` meets its contract: the sum of what its parts leave.
+-- `checks::plain_of_word` meets its contract: what its low bits leave, joined by the high ones, and what is left of these.
 -- Assumes nothing.
-use native.Mathlib.Omega.{arith}
-use Rattle.checks.proofs.Lookups.{of-word}
+use borrow.Author.Needs.{needs}
+use Rattle.checks.proofs.Lookups.{joined-lt, of-word}
 use Rattle.checks.proofs.plain_of_word.Statement.{statement}
 use Rattle.checks.proofs.plain_of_word.Tie as tie
 
+plain-of-byte-requires : tie.Need-plain-of-byte-requires
+plain-of-byte-requires c κs = joined-lt (c .args .v) (c .pre)
+
 returns : tie.Need-returns
-returns c = of-word (c .before .before .before .before .args .v) (c .before .before .before .before .pre) (c .before .before .before .from-12 .ensures) (c .before .before .from-8 .ensures) (c .before .from-4 .ensures) (c .from-0 .ensures)
+returns c = of-word (c .before .args .v) (c .before .pre) (c .plain-of-byte .ensures)
 
 pub plain-of-word-spec : {M : Type 1} → statement M
-plain-of-word-spec = tie.close (tie.spec (λ c κs. omega arith) (λ c κs. omega arith) (λ c κs. omega arith) (λ c κs. omega arith) returns)
+plain-of-word-spec =
+    tie.close
+    (tie.spec (λ c. search needs) (λ c. search needs) (λ c. search needs) (λ c. search needs) plain-of-byte-requires returns)
