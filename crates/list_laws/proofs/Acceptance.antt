@@ -3,7 +3,7 @@
 use Prim.Native.Nat.{ℕ, zero, suc, _+_, _-_, _*_, _^_, _≤_, _<_}
 use mathlib.Core.Path.{_≡_, refl, ap, sym, _∙_, subst}
 use mathlib.Core.List.{List, [], _∷_, _++_, append-nil}
-use mathlib.Core.Bool.{Bool, true, false, not}
+use mathlib.Core.Bool.{true, false, not}
 use native.Mathlib.Omega.{arith}
 use borrow.Author.Tests.{le-leb, leb-true, le-ltb, ltb-false, not-true}
 use lib.Dec.{ltb, leb}
@@ -13,24 +13,17 @@ use Rattle.lists.specs.declared.Header.{Header}
 use Rattle.lists.specs.Values.{Cycle, PeriodicList, cyclesOf, periodsOf, wordsOf}
 use Rattle.lists.specs.Rules.{Check, right, wrong, unless, also, rules}
 use Rattle.lists.specs.Reading.{Read, denied, took, then, when, headerIn, cyclesIn, listIn}
-use Rattle.lists.specs.Sends.{sends, takes, some, overfull, crowded}
+use Rattle.lists.specs.Sends.{sends, takes, overfull, crowded}
 use Rattle.lists.specs.Accepts.{none, ending, ended, accepted}
 use Rattle.lists.specs.Inside.{GoodHead}
 use Rattle.list_laws.specs.Written.{cyclesNumbers, file, All, Listable, CycleObeys, CyclesObey, Obeys}
-use Rattle.lists.proofs.LoadLaws.{some-none, some-one}
+use Rattle.lists.proofs.LoadLaws.{some-none, some-false}
 use Rattle.lists.proofs.ListLaws.{good-head}
 use Rattle.lists.proofs.ThenLaws.{then-yes, when-yes, unless-right, also-right, yes-value, yes-rest}
 use Rattle.list_laws.proofs.WasLaws.{listable-most, Fresh, fresh-left, fresh-right, Shaped, headWritten, header-was, header-back, cycles-was, cycles-back}
 use Rattle.list_laws.proofs.ClashLaws.{prop-listable, fresh-once, once-fresh, fresh-listable}
 
 -- ---- after the last cycle
-some-false : (k : ℕ) (f : ℕ → Bool) → some k f ≡ false → (j : ℕ) → j < k → f j ≡ false
-some-false k f e j h = go (f j) refl
-  where
-    go : (t : Bool) → f j ≡ t → f j ≡ false
-    go true q = let s : some k f ≡ true = some-one k f j h q in let z : _≡_ {A = ℕ} 0 1 = cc in absurd (omega arith)
-    go false q = q
-
 none-left : (rest : List ℕ) → none rest ≡ true → rest ≡ []
 none-left [] e = refl
 none-left (b ∷ rest) e = let z : _≡_ {A = ℕ} 0 1 = cc in absurd (omega arith)

@@ -17,10 +17,10 @@ use Rattle.lists.specs.Values.{Cycle, wordsOf}
 use Rattle.lists.specs.Rules.{rules}
 use Rattle.lists.specs.Reading.{Read, denied, took, then, cycleIn, cyclesIn}
 use Rattle.lists.specs.Sends.{subcycle, sentFrom}
-use Rattle.lists.specs.Inside.{Tells, SeenIs, Marked, Weights, Most, weigh, CycleDone, CyclesFew, Loaded}
+use Rattle.lists.specs.Inside.{Tells, SeenIs, Marked, Weights, Most, weigh, CycleDone, Loaded}
 use Rattle.lists.proofs.WordLaws.{tells-no, tells-yes, told-no, told-yes, weigh-append}
 use Rattle.lists.proofs.SplitLaws.{weigh-few}
-use Rattle.lists.proofs.SentLaws.{words-snoc, few-snoc, sent-mod, sent-snoc, sent-few}
+use Rattle.lists.proofs.SentLaws.{CyclesFew, words-snoc, few-snoc, sent-mod, sent-snoc, sent-few}
 use Rattle.lists.proofs.WidenLaws.{Widened}
 
 pub record Inv (s : List ℕ) (at cycles : ℕ) (weights seen load : List ℕ) (p words n size : ℕ) : Type 0 where
@@ -65,7 +65,7 @@ module _ (s : List ℕ) (at cycles : ℕ) (weights : List ℕ) where
         let q : size ≡ length load = inv .power ∙ ap (λ (k : ℕ). 2 ^ (k - 1)) e ∙ sym (inv .long) in
         tells-yes s (cyclesIn rules cycles 0 [] (drop at s)) (Loaded weights load) (inv .cs) p words
         (sym (inv .left) ∙ ap (λ (k : ℕ). cyclesIn rules k n (inv .cs) (drop p s)) z)
-        (record { count = inv .count; listed = inv .marks .all; few = inv .few; at = λ j l. inv .at-place j (omega arith) })
+        (record { count = inv .count; listed = inv .marks .all; at = λ j l. inv .at-place j (omega arith) })
 
     module _ (h : n < cycles) where
       pub room : 2 ^ n ≤ length load

@@ -4,7 +4,7 @@ use Prim.Native.Nat.{ℕ, zero, suc, _+_, _-_, _*_, _^_, _/_, _%_, _≤_, _<_}
 use mathlib.Core.Path.{_≡_, refl, ap, sym, _∙_, subst}
 use mathlib.Core.List.{List, [], _∷_, _++_}
 use mathlib.Core.Bool.{Bool, true, false, not, _||_}
-use native.Mathlib.Nat.{zero-div, mod-eq-of-lt, div-eq-of-lt, mul-add-mod-self-left, mul-add-div}
+use native.Mathlib.Nat.{zero-div}
 use native.Mathlib.Omega.{arith}
 use borrow.Author.Tests.{lt-ltb, le-ltb, ltb-true, ltb-false, eq-eqb, ne-eqb, le-leb, lt-leb, eqb-true}
 use lib.Dec.{ltb, leb, eqb}
@@ -25,15 +25,15 @@ use Rattle.lists.specs.declared.ListCheck.the-variants.{Accepted, Refuse
 use Rattle.lists.specs.Values.{Cycle, PeriodicList, cyclesOf, periodsOf, byMs, wordsOf}
 use Rattle.frames.specs.Words.{fCode}
 use Rattle.lists.specs.Rules.{Check, right, wrong, unless, also, listable, rules}
-use Rattle.lists.specs.Reading.{Read, denied, took, then, when, within, afterMs, headerIn, cycleIn, cyclesIn, listIn}
+use Rattle.lists.specs.Reading.{Read, denied, took, then, when, within, afterMs, headerIn, cyclesIn, listIn}
 use Rattle.lists.specs.Sends.{cutBy, subcycles, subcycle, sentFrom, sends, takes, some, overfull, crowded}
 use Rattle.lists.specs.Accepts.{none, ending, ended, accepted, afterHeader}
 use Rattle.lists.specs.Answers.{toldCheck, toldRead}
-use Rattle.lists.specs.Inside.{headOf, Tells, SeenIs, bit, AllListable, weigh, Weights, WeightsOf, CyclesFew, Loaded, GoodHead}
+use Rattle.lists.specs.Inside.{headOf, Tells, SeenIs, bit, AllListable, weigh, WeightsOf, Loaded, GoodHead}
 use Rattle.lists.proofs.HeadLaws.{in-range}
+use Rattle.lists.proofs.LoadLaws.{some-none, some-false}
 use Rattle.lists.proofs.TelegramLaws.{telegram-range}
 use Rattle.lists.proofs.WordLaws.{told-no, told-yes}
-use Rattle.lists.proofs.SentLaws.{sent-few}
 use Rattle.lists.proofs.ThenLaws.{then-yes, yes-value}
 
 -- ---- the listed words of a Basic Period are listable
@@ -76,14 +76,10 @@ all-sent (c ∷ cs) m j h =
     all-append (subcycle c (j % 2 ^ m)) (sentFrom (suc m) j cs) (all-sub (c .words) (c .splits) (j % 2 ^ m) (all-left (c .words) (wordsOf cs) h))
     (all-sent cs (suc m) j (all-right (c .words) (wordsOf cs) h))
 
--- ---- a weight is the bit times and the number of words
-weigh-is : (gap : ℕ) (weights ws : List ℕ) → WeightsOf gap weights → AllListable ws → weigh weights ws ≡ 1400000 * length ws + takes gap ws
+-- ---- what words weigh is what they take
+weigh-is : (gap : ℕ) (weights ws : List ℕ) → WeightsOf gap weights → AllListable ws → weigh weights ws ≡ takes gap ws
 weigh-is gap weights [] w h = refl
 weigh-is gap weights (v ∷ ws) w h = omega (arith, w .at (fCode v) (h .0), weigh-is gap weights ws w (h .1))
-
-takes-few : (gap : ℕ) (ws : List ℕ) → gap ≤ 128 → AllListable ws → takes gap ws ≤ 458 * length ws
-takes-few gap [] g h = omega arith
-takes-few gap (v ∷ ws) g h = omega (arith, telegram-range gap (fCode v) (h .0) .1, takes-few gap ws g (h .1))
 
 some-same : (k : ℕ) (f g : ℕ → Bool) → ((j : ℕ) → j < k → f j ≡ g j) → some k f ≡ some k g
 some-same zero f g h = refl
@@ -103,41 +99,33 @@ cycles-most ms = go (eqb ms 1)
     go true = omega arith
     go false = omega arith
 
-module _ (head : Header) (weights load : List ℕ) (cs : List Cycle) (words : ℕ) (g : GoodHead head) (w : WeightsOf (head .gap) weights)
-    (l : length load ≡ periodsOf (head .ms)) (n : length cs ≡ cyclesOf (head .ms)) (d : Loaded weights load cs words) where
-  this : PeriodicList
-  this = record { head = head; cycles = cs }
+load-overfull : (head : Header) (weights load : List ℕ) (cs : List Cycle) (words : ℕ) → GoodHead head → WeightsOf (head .gap) weights
+    → length load ≡ periodsOf (head .ms) → Loaded weights load cs words
+    → some (length load) (λ (j : ℕ). ltb (1500 * head .ms - head .reserve) (getD load j 0)) ≡ overfull (record { head = head; cycles = cs })
+unfolding overfull
+load-overfull head weights load cs words g w l d =
+    some-same (length load) (λ j. ltb (1500 * head .ms - head .reserve) (getD load j 0)) (λ j. ltb (1500 * head .ms) (takes (head .gap) (sentFrom 0 j cs) + head .reserve))
+    (λ j h. ap (λ (x : ℕ). ltb (1500 * head .ms - head .reserve) x) (d .at j h ∙ weigh-is (head .gap) weights (sentFrom 0 j cs) w (all-sent cs 0 j (d .listed)))
+    ∙ more-same (1500 * head .ms - head .reserve) (1500 * head .ms) (takes (head .gap) (sentFrom 0 j cs)) (head .reserve) (omega (arith, g .reserve-high)))
+    ∙ ap (λ (k : ℕ). some k (λ j. ltb (1500 * head .ms) (takes (head .gap) (sentFrom 0 j cs) + head .reserve))) l
 
-  at-place : (j : ℕ) → j < length load → (getD load j 0 ≡ 1400000 * length (sentFrom 0 j cs) + takes (head .gap) (sentFrom 0 j cs)) × (takes (head .gap) (sentFrom 0 j cs) < 1400000)
-  at-place j h =
-      let a : AllListable (sentFrom 0 j cs) = all-sent cs 0 j (d .listed) in
-      let few : length (sentFrom 0 j cs) ≤ 256 * length cs = sent-few cs 0 j (d .few) in
-      (d .at j h ∙ weigh-is (head .gap) weights (sentFrom 0 j cs) w a, omega (arith, takes-few (head .gap) (sentFrom 0 j cs) (g .gap-high) a, n, cycles-most (head .ms)))
+-- ---- what passes 10 passes 19
+takes-least : (gap : ℕ) (ws : List ℕ) → 4 ≤ gap → AllListable ws → 70 * length ws ≤ takes gap ws
+takes-least gap [] g h = omega arith
+takes-least gap (v ∷ ws) g h = omega (arith, telegram-range gap (fCode v) (h .0) .0, takes-least gap ws g (h .1))
 
-  pub load-overfull : some (length load) (λ (j : ℕ). ltb (1500 * head .ms - head .reserve) (getD load j 0 % 1400000)) ≡ overfull (record { head = head; cycles = cs })
+module _ (l : PeriodicList) (g : GoodHead (l .head)) (a : AllListable (wordsOf (l .cycles))) (o : overfull l ≡ false) where
+  -- words of at least 70 bit times, in at most 3,000 with a reserve of at least 71
+  at-most-41 : (j : ℕ) → j < periodsOf (l .head .ms) → length (sends l j) ≤ 41
   unfolding overfull
-  load-overfull =
-      some-same (length load) (λ j. ltb (1500 * head .ms - head .reserve) (getD load j 0 % 1400000)) (λ j. ltb (1500 * head .ms) (takes (head .gap) (sentFrom 0 j cs) + head .reserve))
-      (λ j h.
-      let p = at-place j h in
-      let e : getD load j 0 % 1400000 ≡ takes (head .gap) (sentFrom 0 j cs) =
-      ap (λ (x : ℕ). x % 1400000) (p .0) ∙ mul-add-mod-self-left 1400000 (length (sentFrom 0 j cs)) (takes (head .gap) (sentFrom 0 j cs)) ∙ mod-eq-of-lt (p .1) in
-      ap (λ (x : ℕ). ltb (1500 * head .ms - head .reserve) x) e
-      ∙ more-same (1500 * head .ms - head .reserve) (1500 * head .ms) (takes (head .gap) (sentFrom 0 j cs)) (head .reserve) (omega (arith, g .reserve-high)))
-      ∙ ap (λ (k : ℕ). some k (λ j. ltb (1500 * head .ms) (takes (head .gap) (sentFrom 0 j cs) + head .reserve))) l
+  at-most-41 j h =
+      let fits : takes (l .head .gap) (sends l j) + l .head .reserve ≤ 1500 * l .head .ms =
+      ltb-false _ _ (some-false (periodsOf (l .head .ms)) (λ (j : ℕ). ltb (1500 * l .head .ms) (takes (l .head .gap) (sends l j) + l .head .reserve)) o j h) in
+      omega (arith, takes-least (l .head .gap) (sends l j) (g .gap-low) (all-sent (l .cycles) 0 j a), g .gap-low, g .reserve-low, g .ms-high)
 
-  pub load-crowded : some (length load) (λ (j : ℕ). ltb 64 (getD load j 0 / 1400000)) ≡ crowded (record { head = head; cycles = cs })
+  pub never-crowded : crowded l ≡ false
   unfolding crowded
-  load-crowded =
-      some-same (length load) (λ j. ltb 64 (getD load j 0 / 1400000)) (λ j. ltb 64 (length (sentFrom 0 j cs)))
-      (λ j h.
-      let p = at-place j h in
-      let m : 0 < 1400000 = omega arith in
-      let e : getD load j 0 / 1400000 ≡ length (sentFrom 0 j cs) =
-      ap (λ (x : ℕ). x / 1400000) (p .0) ∙ mul-add-div m (length (sentFrom 0 j cs)) (takes (head .gap) (sentFrom 0 j cs))
-      ∙ ap (λ (x : ℕ). length (sentFrom 0 j cs) + x) (div-eq-of-lt (p .1)) ∙ omega arith in
-      ap (λ (x : ℕ). ltb 64 x) e)
-      ∙ ap (λ (k : ℕ). some k (λ j. ltb 64 (length (sentFrom 0 j cs)))) l
+  never-crowded = some-none (periodsOf (l .head .ms)) (λ (j : ℕ). ltb 64 (length (sends l j))) (λ j h. le-ltb 64 (length (sends l j)) (omega (arith, at-most-41 j h)))
 
 -- ---- after the last cycle
 bytes-after : (s : List ℕ) (end : ℕ) → end < length s → none (drop end s) ≡ false
@@ -152,38 +140,23 @@ module _ (s : List ℕ) (head : Header) (end : ℕ) where
   finish-11 h cs = rw (bytes-after s end h)
 
   module _ (h : length s ≤ end) (words : ℕ) (load : List ℕ) (g : GoodHead head) where
-    module _ (a : Bool) (e : a ≡ some (length load) (λ (j : ℕ). ltb (1500 * head .ms - head .reserve) (getD load j 0 % 1400000))) where
-      pub finish-10 : a ≡ true → (weights : List ℕ) (cs : List Cycle) → WeightsOf (head .gap) weights → length load ≡ periodsOf (head .ms) → length cs ≡ cyclesOf (head .ms)
+    module _ (a : Bool) (e : a ≡ some (length load) (λ (j : ℕ). ltb (1500 * head .ms - head .reserve) (getD load j 0))) where
+      pub finish-10 : a ≡ true → (weights : List ℕ) (cs : List Cycle) → WeightsOf (head .gap) weights → length load ≡ periodsOf (head .ms)
           → Loaded weights load cs words → refusal 10 ≡ toldRead (ended (record { head = head; cycles = cs }) (drop end s))
       unfolding ended ending
-      finish-10 t weights cs w l n d =
-          let o : overfull (record { head = head; cycles = cs }) ≡ true = sym (load-overfull head weights load cs words g w l n d) ∙ sym e ∙ t in
+      finish-10 t weights cs w l d =
+          let o : overfull (record { head = head; cycles = cs }) ≡ true = sym (load-overfull head weights load cs words g w l d) ∙ sym e ∙ t in
           rw (none-after s end h, o)
 
-      module _ (t : a ≡ false) (b : Bool) (f : b ≡ some (length load) (λ (j : ℕ). ltb 64 (getD load j 0 / 1400000))) where
-        pub finish-19 : b ≡ true → (weights : List ℕ) (cs : List Cycle) → WeightsOf (head .gap) weights → length load ≡ periodsOf (head .ms) → length cs ≡ cyclesOf (head .ms)
-            → Loaded weights load cs words → refusal 19 ≡ toldRead (ended (record { head = head; cycles = cs }) (drop end s))
-        unfolding ended ending
-        finish-19 u weights cs w l n d =
-            let o : overfull (record { head = head; cycles = cs }) ≡ false = sym (load-overfull head weights load cs words g w l n d) ∙ sym e ∙ t in
-            let q : crowded (record { head = head; cycles = cs }) ≡ true = sym (load-crowded head weights load cs words g w l n d) ∙ sym f ∙ u in
-            rw (none-after s end h, o, q)
-
-        pub finish-yes : b ≡ false → (weights : List ℕ) (cs : List Cycle) → WeightsOf (head .gap) weights → length load ≡ periodsOf (head .ms) → length cs ≡ cyclesOf (head .ms)
-            → Loaded weights load cs words → toldCheck (Accepted head words) ≡ toldRead (ended (record { head = head; cycles = cs }) (drop end s))
-        unfolding ended ending
-        finish-yes u weights cs w l n d =
-            let o : overfull (record { head = head; cycles = cs }) ≡ false = sym (load-overfull head weights load cs words g w l n d) ∙ sym e ∙ t in
-            let q : crowded (record { head = head; cycles = cs }) ≡ false = sym (load-crowded head weights load cs words g w l n d) ∙ sym f ∙ u in
-            rw (none-after s end h, o, q) (ap (λ (k : ℕ). gives (head .ms ∷ head .gap ∷ head .reserve ∷ k ∷ [])) (d .count))
+      pub finish-yes : a ≡ false → (weights : List ℕ) (cs : List Cycle) → WeightsOf (head .gap) weights → length load ≡ periodsOf (head .ms)
+          → Loaded weights load cs words → toldCheck (Accepted head words) ≡ toldRead (ended (record { head = head; cycles = cs }) (drop end s))
+      unfolding ended ending
+      finish-yes t weights cs w l d =
+          let o : overfull (record { head = head; cycles = cs }) ≡ false = sym (load-overfull head weights load cs words g w l d) ∙ sym e ∙ t in
+          let q : crowded (record { head = head; cycles = cs }) ≡ false = never-crowded (record { head = head; cycles = cs }) g (d .listed) o in
+          rw (none-after s end h, o, q) (ap (λ (k : ℕ). gives (head .ms ∷ head .gap ∷ head .reserve ∷ k ∷ [])) (d .count))
 
 -- ---- the cycles
-pub cycles-length : (k n : ℕ) (cs : List Cycle) (bytes : List ℕ) (ds : List Cycle) (rest : List ℕ) → cyclesIn rules k n cs bytes ≡ took ds rest → length ds ≡ length cs + k
-cycles-length zero n cs bytes ds rest e = let q : cs ≡ ds = yes-value cs ds bytes rest e in ap length (sym q) ∙ omega arith
-cycles-length (suc k) n cs bytes ds rest e =
-    let i = then-yes (cycleIn rules n (wordsOf cs) bytes) (λ c r. cyclesIn rules k (suc n) (cs ++ c ∷ []) r) ds rest e in
-    omega (arith, cycles-length k (suc n) (cs ++ i .0 ∷ []) (i .1) ds rest (i .3), length-append cs (i .0 ∷ []))
-
 abbrev zeros : ℕ → List ℕ
 zeros n = replicate n 0
 
@@ -264,12 +237,12 @@ module _ (s : List ℕ) (head : Header) (at cycles : ℕ) (c : cycles ≡ cycles
       ∙ ap (λ (x : Read (List Cycle)). then x (λ cs rest. ended (record { head = head; cycles = cs }) rest)) q
 
   pub cycles-yes : (end words : ℕ) → r ≡ Done end words → WeightsOf (head .gap) weights → length load ≡ periodsOf (head .ms) → (a : ListCheck) (load' : List ℕ) → load' ≡ load
-      → ((weights : List ℕ) (cs : List Cycle) → WeightsOf (head .gap) weights → length load' ≡ periodsOf (head .ms) → length cs ≡ cyclesOf (head .ms)
+      → ((weights : List ℕ) (cs : List Cycle) → WeightsOf (head .gap) weights → length load' ≡ periodsOf (head .ms)
       → Loaded weights load' cs words → toldCheck a ≡ toldRead (ended (record { head = head; cycles = cs }) (drop end s)))
       → toldCheck a ≡ toldRead (afterHeader head (drop at s))
   cycles-yes end words e w l a load' q f =
       let u = told-yes s (cyclesIn rules cycles 0 [] (drop at s)) _ end words (rw e at t) in
-      f weights (u .0) w (ap length q ∙ l) (cycles-length cycles 0 [] (drop at s) (u .0) (drop end s) (u .1) ∙ omega (arith, c)) (rw q (u .2)) ∙ sym (ap toldRead (after-yes (u .0) end (u .1)))
+      f weights (u .0) w (ap length q ∙ l) (rw q (u .2)) ∙ sym (ap toldRead (after-yes (u .0) end (u .1)))
 
 -- ---- the file
 module _ (s : List ℕ) where

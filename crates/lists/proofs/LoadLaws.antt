@@ -37,8 +37,19 @@ some-one (suc k) f j l e =
     (λ q. or-right (f k) (some k f) (some-one k f j q e))
     (eq-or-lt-of-le (le-of-suc-le-suc l))
 
-pub some-end : (k j : ℕ) (f : ℕ → Bool) → k ≤ j → ((i : ℕ) → i < j → f i ≡ false) → some k f ≡ false
-some-end k j f l h = some-none k f (λ i q. h i (omega arith))
+pub some-false : (k : ℕ) (f : ℕ → Bool) → some k f ≡ false → (j : ℕ) → j < k → f j ≡ false
+some-false k f e j h = go (f j) refl
+  where
+    go : (t : Bool) → f j ≡ t → f j ≡ false
+    go true q = let s : some k f ≡ true = some-one k f j h q in let z : _≡_ {A = ℕ} 0 1 = cc in absurd (omega arith)
+    go false q = q
+
+pub some-here : (k : ℕ) (f : ℕ → Bool) → f k ≡ true → some (k + 1) f ≡ true
+some-here k f e = some-one (k + 1) f k (omega arith) e
+
+-- what was found before k is what was found before k + 1, where k itself fails the test
+pub some-next : (k : ℕ) (f : ℕ → Bool) (found : Bool) → f k ≡ false → found ≡ some k f → found ≡ some (k + 1) f
+some-next k f found e q = let n : k + 1 ≡ suc k = omega arith in rw (n, e) q
 
 data Small (b : ℕ) : List ℕ → Type 0 where
   nil : Small b []
@@ -54,8 +65,8 @@ module _ (gap a b c d e z : ℕ) where
   sixteen = a ∷ b ∷ c ∷ d ∷ e ∷ 0 ∷ 0 ∷ 0 ∷ 0 ∷ 0 ∷ 0 ∷ 0 ∷ 0 ∷ 0 ∷ 0 ∷ z ∷ []
 
 module _ (gap a b c d e z : ℕ) where
-  pub weights-of : (a ≡ 1400000 + telegramBits 0 gap) × (a ≤ 1400458) → (b ≡ 1400000 + telegramBits 1 gap) × (b ≤ 1400458) → (c ≡ 1400000 + telegramBits 2 gap) × (c ≤ 1400458)
-      → (d ≡ 1400000 + telegramBits 3 gap) × (d ≤ 1400458) → (e ≡ 1400000 + telegramBits 4 gap) × (e ≤ 1400458) → (z ≡ 1400000 + telegramBits 15 gap) × (z ≤ 1400458)
+  pub weights-of : (a ≡ telegramBits 0 gap) × (a ≤ 458) → (b ≡ telegramBits 1 gap) × (b ≤ 458) → (c ≡ telegramBits 2 gap) × (c ≤ 458)
+      → (d ≡ telegramBits 3 gap) × (d ≤ 458) → (e ≡ telegramBits 4 gap) × (e ≤ 458) → (z ≡ telegramBits 15 gap) × (z ≤ 458)
       → WeightsOf gap (sixteen gap a b c d e z)
   weights-of ha hb hc hd he hz =
       record {
@@ -65,5 +76,5 @@ module _ (gap a b c d e z : ℕ) where
               (cons (omega arith) (cons (omega arith) (cons (omega arith) (cons (omega arith) (cons (omega arith) (cons (omega arith) (cons (omega arith) (cons (omega arith) (cons (omega arith) (cons (omega arith)
               (cons (hz .1) nil))))))))))))))));
         };
-        at = by-fcode (λ (f : ℕ). getD (sixteen gap a b c d e z) f 0 ≡ 1400000 + telegramBits f gap) (ha .0) (hb .0) (hc .0) (hd .0) (he .0) (hz .0);
+        at = by-fcode (λ (f : ℕ). getD (sixteen gap a b c d e z) f 0 ≡ telegramBits f gap) (ha .0) (hb .0) (hc .0) (hd .0) (he .0) (hz .0);
       }

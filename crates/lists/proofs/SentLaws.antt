@@ -8,7 +8,11 @@ use lib.ListN.{length, getD, take, drop, length-append, length-take, length-drop
 use lib.Pow.{mod-mod-pow}
 use Rattle.lists.specs.Values.{Cycle, wordsOf}
 use Rattle.lists.specs.Sends.{cutBy, subcycles, subcycle, sentFrom}
-use Rattle.lists.specs.Inside.{CyclesFew, AllListable}
+
+-- every cycle has at most 256 words
+abbrev pub CyclesFew : List Cycle → Type 0
+CyclesFew [] = Unit {0}
+CyclesFew (c ∷ cs) = (length (c .words) ≤ 256) × CyclesFew cs
 
 pub words-append : (cs ds : List Cycle) → wordsOf (cs ++ ds) ≡ wordsOf cs ++ wordsOf ds
 words-append [] ds = refl

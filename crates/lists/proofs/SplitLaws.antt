@@ -69,7 +69,7 @@ module _ (weights own sums : List ℕ) (count : ℕ) (k : Sums weights own sums)
   all-weight = k .at count (omega arith) ∙ ap (weigh weights) (take-all count own (omega arith))
 
 -- sums of weights rise, and are small
-pub weigh-few : (weights ws : List ℕ) → Weights weights → weigh weights ws ≤ 1400458 * length ws
+pub weigh-few : (weights ws : List ℕ) → Weights weights → weigh weights ws ≤ 458 * length ws
 weigh-few weights [] w = omega arith
 weigh-few weights (v ∷ ws) w = omega (arith, w .most (v / 4096), weigh-few weights ws w)
 
@@ -219,7 +219,7 @@ module _ (s : List ℕ) (at count : ℕ) (sums load₀ : List ℕ) where
               rise = inv .rising .rise (min done count) (min (done + z) count) (omega arith) (omega arith);
               fits =
                   (let a : getD load i 0 ≡ getD load₀ i 0 = inv .rest i (omega arith) in
-                  let b : getD load₀ i 0 ≤ 358517248 * 10 = inv .most i (omega (arith, inv .long)) in
+                  let b : getD load₀ i 0 ≤ 117248 * 10 = inv .most i (omega (arith, inv .long)) in
                   omega (arith, inv .rising .most (min (done + z) count) (omega arith)));
             }
 
@@ -302,5 +302,5 @@ module _ (s : List ℕ) (at count : ℕ) (sums load : List ℕ) where
 
   pub one-fits : Rising count sums → Most 10 load → length load ≡ 1 → getD load 0 0 + getD sums count 0 < 4294967296
   one-fits r m h =
-      let a : getD load 0 0 ≤ 358517248 * 10 = m 0 (omega arith) in
+      let a : getD load 0 0 ≤ 117248 * 10 = m 0 (omega arith) in
       omega (arith, r .most count (omega arith))

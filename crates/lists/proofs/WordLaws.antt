@@ -96,7 +96,7 @@ pub record Inv (s : List ℕ) (at count : ℕ) (weights seen₀ seen sums : List
   pub marks : length seen ≡ 256
   pub places : length sums ≡ 257
   pub last : getD sums i 0 ≡ sum
-  pub most : sum ≤ 1400458 * i
+  pub most : sum ≤ 458 * i
   pub told : (before : List ℕ) → SeenIs seen₀ before → Upto s at count weights before seen sums p i
 
 -- what `read_words` promises

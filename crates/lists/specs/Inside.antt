@@ -87,10 +87,10 @@ abbrev pub weigh : List ℕ → List ℕ → ℕ
 weigh weights [] = 0
 weigh weights (w ∷ ws) = getD weights (fCode w) 0 + weigh weights ws
 
--- a word counts 1,400,000 beside the bit times of its telegram, which no Basic Period can reach: 2,816 words take at most 1,289,728
+-- the weights by F_code: no telegram takes more than 458 bit times
 pub record Weights (weights : List ℕ) : Type 0 where
   pub long : length weights ≡ 16
-  pub most : (f : ℕ) → getD weights f 0 ≤ 1400458
+  pub most : (f : ℕ) → getD weights f 0 ≤ 458
 
 -- the F_codes of listed words
 abbrev pub Listable : ℕ → Type 0
@@ -99,21 +99,21 @@ Listable f = (ltb f 5 || eqb f 15) ≡ true
 -- the weights that a gap makes
 pub record WeightsOf (gap : ℕ) (weights : List ℕ) : Type 0 where
   pub bounds : Weights weights
-  pub at : (f : ℕ) → Listable f → getD weights f 0 ≡ 1400000 + telegramBits f gap
+  pub at : (f : ℕ) → Listable f → getD weights f 0 ≡ telegramBits f gap
 
 -- sums holds what the first 0, 1, 2, .. words weigh
 pub record Sums (weights ws sums : List ℕ) : Type 0 where
   pub at : (i : ℕ) → i ≤ length ws → getD sums i 0 ≡ weigh weights (take i ws)
 
--- the first sums rise, and are small enough to be added up for 11 cycles
+-- the first sums rise: 256 words weigh at most 117,248
 pub record Rising (count : ℕ) (sums : List ℕ) : Type 0 where
   pub few : count ≤ 256
   pub rise : (i j : ℕ) → i ≤ j → j ≤ count → getD sums i 0 ≤ getD sums j 0
-  pub most : (i : ℕ) → i ≤ count → getD sums i 0 ≤ 358517248
+  pub most : (i : ℕ) → i ≤ count → getD sums i 0 ≤ 117248
 
 -- after n cycles no Basic Period has more than this
 abbrev pub Most : ℕ → List ℕ → Type 0
-Most n load = (j : ℕ) → j < length load → getD load j 0 ≤ 358517248 * n
+Most n load = (j : ℕ) → j < length load → getD load j 0 ≤ 117248 * n
 
 -- the load of a Subcycle with the weight of so many more words than are done, of those that there are
 abbrev pub weighed : List ℕ → ℕ → ℕ → ℕ → ℕ → ℕ
@@ -144,16 +144,10 @@ pub record CycleDone (before weights seen load load' : List ℕ) (c : Cycle) (k 
   pub marks : SeenIs seen (before ++ c .words)
   pub adds : Added weights load load' c
 
--- every cycle has at most 256 words
-abbrev pub CyclesFew : List Cycle → Type 0
-CyclesFew [] = Unit {0}
-CyclesFew (c ∷ cs) = (length (c .words) ≤ 256) × CyclesFew cs
-
 -- what is known after the cycles, with k words: each Basic Period's place holds what it sends weighs
 pub record Loaded (weights load : List ℕ) (cs : List Cycle) (k : ℕ) : Type 0 where
   pub count : k ≡ length (wordsOf cs)
   pub listed : AllListable (wordsOf cs)
-  pub few : CyclesFew cs
   pub at : (j : ℕ) → j < length load → getD load j 0 ≡ weigh weights (sentFrom 0 j cs)
 
 -- a header as it is read

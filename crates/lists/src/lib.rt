@@ -8,7 +8,6 @@ mod words;
 
 use crate::cycles::read_cycles;
 use crate::head::read_header;
-use crate::load::crowded;
 use crate::load::overfull;
 use crate::load::weights;
 use refusals::Refusal;
@@ -58,10 +57,10 @@ pub fn periods_of(ms: u16) -> usize
     if ms == 1 { 1024 } else { 512 }
 }
 
-// After the last cycle: 11, then 10, then 19.
+// After the last cycle: 11, then 10. What passes 10 never gets 19: no more than 41 words fit into a Basic Period.
 fn finish(s: &[u8], head: Header, end: usize, words: usize, load: &[u32]) -> ListCheck
     requires { ⌜ GoodHead head ⌝ }
-    ensures { λ r. ⌜ ((weights : List ℕ) (cs : List Cycle) → WeightsOf (head .gap) weights → length (now (load .entry)) ≡ periodsOf (head .ms) → length cs ≡ cyclesOf (head .ms)
+    ensures { λ r. ⌜ ((weights : List ℕ) (cs : List Cycle) → WeightsOf (head .gap) weights → length (now (load .entry)) ≡ periodsOf (head .ms)
         → Loaded weights (now (load .entry)) cs words → toldCheck r ≡ toldRead (ended (record { head = head; cycles = cs }) (drop end (now (s .entry))))) ⌝ }
 {
     if end < s.len() {
@@ -71,9 +70,6 @@ fn finish(s: &[u8], head: Header, end: usize, words: usize, load: &[u32]) -> Lis
     let reserve = head.reserve;
     if overfull(load, (1500 * ms - reserve) as u32) {
         return ListCheck::Refused(Refusal::PeriodOverfull);
-    }
-    if crowded(load) {
-        return ListCheck::Refused(Refusal::TooManyFrames);
     }
     ListCheck::Accepted(head, words)
 }

@@ -2,26 +2,22 @@
 use timing::Telegram;
 use timing::telegram_bits;
 ghost use mathlib.Core.Path.{_≡_};
-ghost use mathlib.Core.Bool.{true};
-ghost use Prim.Native.Nat.{ℕ, _+_, _*_, _/_, _%_, _≤_};
+ghost use Prim.Native.Nat.{ℕ, _≤_};
 ghost use lib.ListN.{length, getD};
 ghost use lib.Dec.{ltb};
 ghost use Rattle.timing.specs.Timing.{telegramBits};
 ghost use Rattle.lists.specs.Sends.{some};
 ghost use Rattle.lists.specs.Inside.{Listable, WeightsOf};
 
-// A word beside the bit times of its telegram: more than all Basic Periods' words can take.
-const WORD: u32 = 1400000;
-
-// What a word with this F_code weighs.
+// What a word with this F_code weighs: the bit times of its telegram.
 fn weight(f_code: u8, gap: u16) -> u32
     requires { ⌜ Listable «f_code» × (4 ≤ gap) × (gap ≤ 128) ⌝ }
-    ensures { λ r. ⌜ (r ≡ 1400000 + telegramBits «f_code» gap) × (r ≤ 1400458) ⌝ }
+    ensures { λ r. ⌜ (r ≡ telegramBits «f_code» gap) × (r ≤ 458) ⌝ }
 {
     let t = telegram_bits(f_code, gap);
     match t {
-        Telegram::Bits(n) => WORD + (n as u32),
-        Telegram::Refused(_) => WORD,
+        Telegram::Bits(n) => n as u32,
+        Telegram::Refused(_) => 0,
     }
 }
 
@@ -40,30 +36,17 @@ pub(crate) fn weights(gap: u16) -> [u32; 16]
     w
 }
 
-// Does a Basic Period take more than most.
+// Does a Basic Period take more than most. Every load is looked at: with no early way out the compiler takes several at once.
 pub(crate) fn overfull(load: &[u32], most: u32) -> bool
-    ensures { λ r. ⌜ r ≡ some (length (now (load .entry))) (λ (j : ℕ). ltb most (getD (now (load .entry)) j 0 % 1400000)) ⌝ }
+    ensures { λ r. ⌜ r ≡ some (length (now (load .entry))) (λ (j : ℕ). ltb most (getD (now (load .entry)) j 0)) ⌝ }
 {
+    let mut found = false;
     let mut j = 0;
     while j < load.len() {
-        if most < load[j] % WORD {
-            return true;
+        if most < load[j] {
+            found = true;
         }
         j += 1;
     }
-    false
-}
-
-// Does a Basic Period send more than 64 words.
-pub(crate) fn crowded(load: &[u32]) -> bool
-    ensures { λ r. ⌜ r ≡ some (length (now (load .entry))) (λ (j : ℕ). ltb 64 (getD (now (load .entry)) j 0 / 1400000)) ⌝ }
-{
-    let mut j = 0;
-    while j < load.len() {
-        if 64 < load[j] / WORD {
-            return true;
-        }
-        j += 1;
-    }
-    false
+    found
 }

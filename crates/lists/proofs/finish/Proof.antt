@@ -1,21 +1,18 @@
 -- `finish` meets its promise, a law for each way out.
 -- Assumes nothing.
 use borrow.Author.Needs.{needs}
-use Rattle.lists.proofs.ListLaws.{finish-11, finish-10, finish-19, finish-yes}
+use Rattle.lists.proofs.ListLaws.{finish-11, finish-10, finish-yes}
 use Rattle.lists.proofs.finish.Statement.{statement}
 use Rattle.lists.proofs.finish.Tie as tie
 
 returns : tie.Need-returns
-returns c weights cs w l n d = finish-11 (c .before .before .before .args .s .now) (c .before .before .before .args .head) (c .before .before .before .args .end) (c .if1 .taken) cs
+returns c weights cs w l d = finish-11 (c .before .before .before .args .s .now) (c .before .before .before .args .head) (c .before .before .before .args .end) (c .if1 .taken) cs
 
 returns-2 : tie.Need-returns-2
 returns-2 c = finish-10 (c .before .before .before .before .before .args .s .now) (c .before .before .before .before .before .args .head) (c .before .before .before .before .before .args .end) (c .before .before .if1 .left) (c .before .before .before .before .before .args .words) (c .before .before .before .before .before .args .load .now) (c .before .before .before .before .before .pre) _ (c .before .overfull .ensures) (c .if2 .taken)
 
 returns-3 : tie.Need-returns-3
-returns-3 c = finish-19 (c .before .before .before .before .before .before .before .args .s .now) (c .before .before .before .before .before .before .before .args .head) (c .before .before .before .before .before .before .before .args .end) (c .before .before .before .before .if1 .left) (c .before .before .before .before .before .before .before .args .words) (c .before .before .before .before .before .before .before .args .load .now) (c .before .before .before .before .before .before .before .pre) _ (c .before .before .before .overfull .ensures) (c .before .before .if2 .left) _ (c .before .crowded .ensures) (c .if3 .taken)
-
-returns-4 : tie.Need-returns-4
-returns-4 c = finish-yes (c .before .before .before .before .before .before .before .args .s .now) (c .before .before .before .before .before .before .before .args .head) (c .before .before .before .before .before .before .before .args .end) (c .before .before .before .before .if1 .left) (c .before .before .before .before .before .before .before .args .words) (c .before .before .before .before .before .before .before .args .load .now) (c .before .before .before .before .before .before .before .pre) _ (c .before .before .before .overfull .ensures) (c .before .before .if2 .left) _ (c .before .crowded .ensures) (c .if3 .left)
+returns-3 c = finish-yes (c .before .before .before .before .before .args .s .now) (c .before .before .before .before .before .args .head) (c .before .before .before .before .before .args .end) (c .before .before .if1 .left) (c .before .before .before .before .before .args .words) (c .before .before .before .before .before .args .load .now) (c .before .before .before .before .before .pre) _ (c .before .overfull .ensures) (c .if2 .left)
 
 pub finish-spec : {M : Type 1} → statement M
 finish-spec =
@@ -27,6 +24,4 @@ finish-spec =
     (λ c. search needs)
     (λ c κs. search needs)
     returns-2
-    (λ c κs. search needs)
-    returns-3
-    returns-4)
+    returns-3)
