@@ -13,8 +13,7 @@ use Rattle.rows.specs.Rows.{dataBytes}
 use Rattle.rows.proofs.Rows.{bits-most}
 use Rattle.port_table.specs.declared.Port.{Port}
 use Rattle.port_table.specs.Table.{rising, good, portBytes, tableBytes, before, placeOf}
-use Rattle.port_table.specs.Seen.{nextFrom}
-use Rattle.port_table.specs.Inside.{climbs}
+use Rattle.port_table.specs.Inside.{nextFrom, climbs}
 
 -- ---- truth values
 

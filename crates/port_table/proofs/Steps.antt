@@ -14,8 +14,8 @@ use Rattle.port_table.specs.declared.Place.{Place}
 use Rattle.port_table.specs.declared.Seen.{Seen}
 use Rattle.port_table.specs.declared.records.Walk.{Walk}
 use Rattle.port_table.specs.Table.{good, portBytes, tableBytes, before, placeOf, noPort}
-use Rattle.port_table.specs.Seen.{nextFrom, emptySeen, goodSeen, seenOf}
-use Rattle.port_table.specs.Inside.{noWalk, walkedOf, climbs, follow, placeIn, shownBy, Keeps, Shows}
+use Rattle.port_table.specs.Seen.{emptySeen, goodSeen, seenOf}
+use Rattle.port_table.specs.Inside.{nextFrom, noWalk, walkedOf, climbs, follow, placeIn, shownBy, Keeps, Shows}
 use Rattle.port_table.proofs.OneMore.{by-cases, not-both, bytes-more, length-more, good-is, climbs-more, next-more, before-found, before-missed, listed-below}
 
 -- ---- what a walk shows
@@ -121,11 +121,10 @@ module _ (w : Walk) (a : ℕ) (ps : List Port) (k : Keeps w a ps) (p : Port) (go
 
     -- all but the place
     shows-more : (place : Place) → place ≡ placeAfter (goodSeen a ps) p (portBytes p) a
-        → _≡_ {A = Seen} (record { good = true; next = p .address + 1; count = length (ps ++ p ∷ []); bytes = w .bytes + size; place = place }) (goodSeen a (ps ++ p ∷ []))
+        → _≡_ {A = Seen} (record { good = true; count = length (ps ++ p ∷ []); bytes = w .bytes + size; place = place }) (goodSeen a (ps ++ p ∷ []))
     shows-more place e =
         λ i. record {
           good = true;
-          next = sym (next-more 0 ps p) i;
           count = length (ps ++ p ∷ []);
           bytes = (ap₂ (λ (s : Seen) (n : ℕ). s .bytes + n) showed sized ∙ sym (bytes-more ps p)) i;
           place = (e ∙ place-more a ps p) i;
@@ -195,8 +194,8 @@ module _ (w : Walk) (n : ℕ) where
           sym (seen-bad a ps (good-is ps ∙ ap (λ (b : Bool). leb (length ps) 256 && (climbs 0 ps && b)) (lt-leb (nextFrom 0 ps) 4096 (omega (arith, k few .above)))
           ∙ ap (λ (b : Bool). leb (length ps) 256 && b) (and-false (climbs 0 ps)) ∙ and-false (leb (length ps) 256)))
 
-      pub shown-good : w .next ≤ 4096 → (place : Place) → place ≡ placeIn w n → Shows w n (record { good = true; next = w .next; count = n; bytes = w .bytes; place = place })
+      pub shown-good : w .next ≤ 4096 → (place : Place) → place ≡ placeIn w n → Shows w n (record { good = true; count = n; bytes = w .bytes; place = place })
       shown-good h place e = λ a ps l k.
           let c : climbs 0 ps ≡ true = sym (k few .climbing) ∙ not-false (w .good) g in
           let t : good ps ≡ true = good-is ps ∙ ap₂ (λ (x y : Bool). x && (climbs 0 ps && y)) (le-leb (length ps) 256 (omega arith)) (le-leb (nextFrom 0 ps) 4096 (omega (arith, k few .above))) ∙ ap (λ (b : Bool). b && true) c in
-          ap (λ (x : Place). record { good = true; next = w .next; count = n; bytes = w .bytes; place = x }) e ∙ ap (shownBy w) (sym l) ∙ k few .shows c ∙ sym (seen-good a ps t)
+          ap (λ (x : Place). record { good = true; count = n; bytes = w .bytes; place = x }) e ∙ ap (shownBy w) (sym l) ∙ k few .shows c ∙ sym (seen-good a ps t)

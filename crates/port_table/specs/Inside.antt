@@ -14,7 +14,7 @@ use Rattle.port_table.specs.declared.Tested.{Tested}
 use Rattle.port_table.specs.declared.records.Walk.{Walk}
 use Rattle.port_table.specs.declared.goodness.Taken.{Taken}
 use Rattle.port_table.specs.Table.{rising, noPort}
-use Rattle.port_table.specs.Seen.{nextFrom, goodSeen, seenOf}
+use Rattle.port_table.specs.Seen.{goodSeen, seenOf}
 use Rattle.port_table.specs.Tested.{sinkBits, sinksPart, testedOf}
 
 -- a walk of some table showed this
@@ -34,6 +34,11 @@ unfoldable pub climbs : ℕ → List Port → Bool
 climbs low [] = true
 climbs low (p ∷ ps) = leb low (p .address) && (ltb (p .«f_code») 5 && climbs (p .address + 1) ps)
 
+-- one more than the last address
+unfoldable pub nextFrom : ℕ → List Port → ℕ
+nextFrom low [] = low
+nextFrom low (p ∷ ps) = nextFrom (p .address + 1) ps
+
 -- so it stays with one record more
 abbrev pub follow : Walk → Port → Bool
 follow w p = w .good && (leb (w .next) (p .address) && ltb (p .«f_code») 5)
@@ -46,7 +51,7 @@ placeIn w n =
 
 -- what it shows of a good table
 abbrev pub shownBy : Walk → ℕ → Seen
-shownBy w n = record { good = true; next = w .next; count = n; bytes = w .bytes; place = placeIn w n }
+shownBy w n = record { good = true; count = n; bytes = w .bytes; place = placeIn w n }
 
 -- what a walk of these records keeps, for the address
 pub record Keeps (w : Walk) (a : ℕ) (ps : List Port) : Type 0 where

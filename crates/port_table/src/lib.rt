@@ -22,11 +22,10 @@ pub struct Place {
     pub sink: u8,
 }
 
-// What a walk of the table shows: `next` is one more than the last address, `place.at` is `count` where no record has
-// the address. Of a table that is not good all else is 0.
+// What a walk of the table shows: `place.at` is `count` where no record has the address. Of a table that is not good all
+// else is 0.
 pub struct Seen {
     pub good: bool,
-    pub next: u16,
     pub count: usize,
     pub bytes: usize,
     pub place: Place,

@@ -110,7 +110,6 @@ fn not_good() -> Seen
 {
     Seen {
         good: false,
-        next: 0,
         count: 0,
         bytes: 0,
         place: Place {
@@ -160,7 +159,6 @@ pub(crate) fn shown(walk: Walk, count: usize) -> Seen
     let place = place_in(walk, count);
     Seen {
         good: true,
-        next: walk.next as u16,
         count,
         bytes: walk.bytes,
         place,

@@ -27,12 +27,11 @@ returns-3 c =
 
 returns-4 : tie.Need-returns-4
 returns-4 c =
-    let placed : tie.After-place-in = c .before in
-    let low : tie.Else3 = placed .before in
+    let low : tie.Else3 = c .before in
     let ordered : tie.Else2 = low .before .before in
     let few : tie.Else1 = ordered .before in
     let start : tie.Start = few .before in
-    shown-good (start .args .walk) _ (few .if1 .left) (ordered .if2 .left) (low .if3 .left) _ (placed .place-in .ensures)
+    shown-good (start .args .walk) _ (few .if1 .left) (ordered .if2 .left) (low .if3 .left) _ (c .place-in .ensures)
 
 pub shown-spec : {M : Type 1} → statement M
 shown-spec =
@@ -45,5 +44,4 @@ shown-spec =
     (λ c κs. search needs)
     returns-3
     (λ c κs. search needs)
-    (λ c. search needs)
     returns-4)
