@@ -8,12 +8,6 @@ use lib.Pow.{pow-mono, pow-add, shl-shr}
 pub at-most : (k : ℕ) → k ≤ 12 → 2 ^ k ≤ 4096
 at-most k h = pow-mono {j = 12} h
 
-pub one-less : (m : ℕ) → m < 12 → 12 - m ≡ suc (11 - m)
-one-less m h = omega arith
-
-pub twice : (m : ℕ) → m < 12 → 2 ^ (12 - m) ≡ 2 ^ (11 - m) + 2 ^ (11 - m)
-twice m h = rw one-less (omega arith)
-
 pub doubled : (k : ℕ) → 2 ^ suc k ≡ 2 ^ k + 2 ^ k
 doubled k = omega arith
 

@@ -1,12 +1,15 @@
 -- What each way through a step's code returns is what the definition says.
 -- Assumes nothing.
-use mathlib.Core.Path.{_≡_, refl, sym, ap, _∙_}
+use mathlib.Core.Path.{_≡_, refl, sym, _∙_, subst}
 use mathlib.Core.Bool.{Bool, true, false, cond, not, _&&_, _||_}
 use mathlib.Core.List.{[], _∷_}
 use mathlib.Core.Logic.{⊎-elim}
-use Prim.Native.Nat.{ℕ, zero, suc, _+_, _-_, _^_, _≤_, _<_}
+use Prim.Native.Nat.{ℕ, zero, suc, _+_, _-_, _*_, _%_, _^_, _≤_, _<_}
 use native.Mathlib.Omega.{arith}
-use lib.Dec.{ltb, eqb}
+use native.Mathlib.Nat.{one-mul, mod-lt}
+use lib.Dec.{ltb, eqb, lit<}
+use lib.Pow.{pow-pos, shl-exact}
+use lib.Count.{leadingZeros, leading-top}
 use borrow.Author.Tests.{lt-ltb, le-ltb, eq-eqb, ne-eqb, ltb-false, not-true, not-false}
 use types.Run.{OneOf}
 use denote.Enum.Declared.{tagOf}
@@ -16,8 +19,8 @@ use Rattle.frames.specs.declared.LineAnswer.the-variants.{Silence, Reply, Colli
 use Rattle.frames.specs.Words.{fCode, address}
 use Rattle.frames.proofs.LineAnswer.{the-type as answer-type}
 use Rattle.groups.specs.Groups.{isGroup, inGroup, over, at, follows}
-use Rattle.groups.proofs.Follow.{is-group, after-low, after-high, after-all}
-use Rattle.groups.proofs.Powers.{twice}
+use Rattle.groups.proofs.Follow.{Group, is-group, group-is, ones-last, highest-zero}
+use Rattle.groups.proofs.Powers.{at-most, doubled}
 use Rattle.rounds.specs.declared.Phase.{Phase}
 use Rattle.rounds.specs.declared.Phase.the-variants.{Asked, Read, Ended}
 use Rattle.rounds.specs.declared.Counts.{Counts}
@@ -27,42 +30,56 @@ use Rattle.rounds.specs.declared.Step.the-variants.{Next, End, Refused}
 use Rattle.rounds.specs.Rounds.{countsOf, round, oneRequest, oneRead, oneUnresolved, nobody, unclear, isGood, judge, ask, stand, goOn, split, heard, broken, ended, stepBy, stepOf}
 use Rattle.rounds.specs.Inside.{Sound, goodAnswer, goOnUnless, resumed}
 
--- ---- next: up the groups, until one is a lower half
-module _ (m c half m₀ c₀ : ℕ) (k : Counts) (h : m < 12) (p : half ≡ 2 ^ (12 - (m + 1))) (i : follows m c ≡ follows m₀ c₀) where
-  half-is : half ≡ 2 ^ (11 - m)
-  half-is = let e : 12 - (m + 1) ≡ 11 - m = omega arith in p ∙ ap (λ (n : ℕ). 2 ^ n) e
+-- ---- next
+-- 2^place, as a word shifted left has it
+abbrev pub halfAt : ℕ → ℕ
+halfAt place = (1 * 2 ^ place) % 65536
 
-  -- after a lower half, the upper
-  follows-upper : c < half → follows m₀ c₀ ≡ at m (c + half)
-  follows-upper s =
-      let s₂ : c < 2 ^ (11 - m) = omega (arith, half-is) in
-      rw (← i, after-low m c h s₂, half-is)
+-- c has its highest zero at this place
+pub record Zero (m c place : ℕ) : Type 0 where
+  pub low : place ≤ 11
+  pub positive : 0 < halfAt place
+  pub next : follows m c ≡ at (11 - place) (c % halfAt place + halfAt place)
+  pub group : (n : ℕ) → Group (11 - place) (n % halfAt place + halfAt place)
 
+zero-at : (m c j : ℕ) → Group m c → 2 ^ j ≤ 2 ^ (12 - m) - 1 - c → 2 ^ (12 - m) - 1 - c < 2 ^ suc j → Zero m c j
+zero-at m c j g l h =
+    let z = highest-zero m c j g l h in
+    let e : 2 ^ j ≡ halfAt j = sym (shl-exact 1 j 16 (lit< tt) (omega (arith, z .0)) ∙ one-mul (2 ^ j)) in
+    let d : 12 - (11 - j) ≡ suc j = omega (arith, z .0) in
+    record {
+      low = z .0;
+      positive = rw (← e) (pow-pos j);
+      next = rw (← e) (z .1);
+      group = λ n. (omega arith, rw (← e, d) (omega (arith, mod-lt n (pow-pos j), doubled j)));
+    }
+
+module _ (m c bound : ℕ) (g : isGroup m c ≡ true) (b : bound ≡ 2 ^ (12 - m)) where
+  -- c is all ones: the round ends, full or not
+  pub next-over : (k : Counts) (full : Bool) → bound - 1 - c ≡ 0 → stand over k ≡ goOnUnless full m c k
+  next-over k full e = rw (ones-last m c (group-is m c g) (rw b at e)) (ends full)
+    where
+      ends : (f : Bool) → stand over k ≡ cond (f && false) (Refused ImpossibleRound) (stand over k)
+      ends true = refl
+      ends false = refl
+
+  pub next-zero : ((bound - 1 - c ≡ 0) → ⊥) → (leadingZeros 16 (bound - 1 - c) ≤ 15) × Zero m c (15 - leadingZeros 16 (bound - 1 - c))
+  next-zero f =
+      let t = leading-top 16 (bound - 1 - c) (omega arith) (omega (arith, at-most (12 - m) (omega arith))) in
+      zero-by (leadingZeros 16 (bound - 1 - c)) (t .0) (t .1) (t .2) (t .3)
+    where
+      zero-by : (z j : ℕ) → z + suc j ≡ 16 → 2 ^ j ≤ bound - 1 - c → bound - 1 - c < 2 ^ suc j → (z ≤ 15) × Zero m c (15 - z)
+      zero-by z j s l h =
+          let e : j ≡ 15 - z = omega arith in
+          (omega arith, subst (λ (i : ℕ). Zero m c i) e (zero-at m c j (group-is m c g) (omega arith) (omega arith)))
+
+module _ (m c place : ℕ) (z : Zero m c place) (k : Counts) (full : Bool) where
   -- the upper half is asked, or a full round refused
-  pub next-found : (full : Bool) → full ≡ false → c < half → ask m (c + half) k ≡ goOnUnless full m₀ c₀ k
-  next-found full f s = rw (f, follows-upper s) refl
+  pub next-found : full ≡ false → ask (11 - place) (c % halfAt place + halfAt place) k ≡ goOnUnless full m c k
+  next-found f = rw (f, z .next) refl
 
-  pub next-full : (full : Bool) → full ≡ true → c < half → Refused ImpossibleRound ≡ goOnUnless full m₀ c₀ k
-  next-full full f s = rw (f, follows-upper s) refl
-
-  pub next-up : half ≤ c → follows (m + 1) (c - half) ≡ follows m₀ c₀
-  next-up s =
-      let s₂ : 2 ^ (11 - m) ≤ c = omega (arith, half-is) in
-      rw half-is (sym (after-high m c h s₂) ∙ i)
-
-  pub upper-group : c < half → isGroup m (c + half) ≡ true
-  upper-group s = is-group m (c + half) (omega arith, omega (arith, half-is, twice m h))
-
-  pub group-up : c < 2 ^ (12 - m) → c - half < 2 ^ (12 - (m + 1))
-  group-up l = rw (← p) (omega (arith, half-is, twice m h))
-
--- after the group of all devices the round ends, full or not
-pub next-over : (m c m₀ c₀ : ℕ) (k : Counts) (full : Bool) → 12 ≤ m → follows m c ≡ follows m₀ c₀ → stand over k ≡ goOnUnless full m₀ c₀ k
-next-over m c m₀ c₀ k full l i = rw (← i, after-all m c l) (ends full)
-  where
-    ends : (b : Bool) → stand over k ≡ cond (b && false) (Refused ImpossibleRound) (stand over k)
-    ends true = refl
-    ends false = refl
+  pub next-full : full ≡ true → Refused ImpossibleRound ≡ goOnUnless full m c k
+  next-full f = rw (f, z .next) refl
 
 -- ---- anything else: a single device is left unresolved, a group is split
 split-zero : (m c : ℕ) (k : Counts) (s : Step) → m ≡ 0 → s ≡ goOn m c (oneUnresolved k) → s ≡ split m c k

@@ -146,26 +146,22 @@ impl Round {
         Step::Next(round, word)
     }
 
-    // Goes on: to the upper half, where {m, c} is a lower one, or else to what follows the group of both. A full round
-    // cannot ask any more and can only end.
+    // Goes on. The highest zero of c marks the lower half whose upper one is still to be asked; above has a one where c
+    // has a zero. A full round cannot ask any more and can only end.
     fn next(self, full: bool) -> Step
         requires { ⌜ isGroup (self .m) (self .c) ≡ true ⌝ }
         ensures { λ r. ⌜ r ≡ goOnUnless full (self .m) (self .c) (countsOf self) ⌝ }
     {
-        let mut m = self.m;
-        let mut c = self.c;
-        while m < 12 {
-            let half = groups::bound(m + 1);
-            if c < half {
-                if full {
-                    return Step::Refused(Refusal::ImpossibleRound);
-                }
-                return self.ask(m, c + half);
-            }
-            c = c - half;
-            m = m + 1;
+        let above = groups::bound(self.m) - 1 - self.c;
+        if above == 0 {
+            return self.end();
         }
-        self.end()
+        if full {
+            return Step::Refused(Refusal::ImpossibleRound);
+        }
+        let place = 15 - u16::leading_zeros(above);
+        let half = 1u16 << place;
+        self.ask(11 - place as u16, self.c % half + half)
     }
 
     // Hands out the request for the group {m, c}, m at most 11.

@@ -1,36 +1,29 @@
--- `rounds::words::group_word` meets its contract: M - 1 ones, a zero and C make 2^12 - 2^(13-M) + C.
+-- `rounds::words::group_word` meets its contract: M - 1 ones, a zero and C make 2^12 - 2^(13-M) + C; for M = 0 nothing is taken away.
 -- Assumes nothing.
-use mathlib.Core.Path.{_≡_, refl, sym, ap, _∙_}
-use mathlib.Core.Bool.{true}
-use Prim.Native.Nat.{ℕ, _-_, _<_}
+use mathlib.Core.Path.{_≡_, sym, ap, _∙_}
+use Prim.Native.Nat.{ℕ, zero, suc, _+_, _-_, _%_, _/_, _^_, _≤_}
 use native.Mathlib.Omega.{arith}
+use native.Mathlib.Nat.{mod-eq-of-lt}
 use borrow.Author.Needs.{needs}
-use Rattle.groups.specs.Groups.{isGroup, groupWord}
+use Rattle.groups.specs.Groups.{groupWord}
 use Rattle.groups.proofs.Follow.{group-is, c-small}
 use Rattle.groups.proofs.Powers.{at-most, cut}
 use Rattle.groups.proofs.Words.{group-zero, group-pos}
 use Rattle.rounds.proofs.words.group_word.Statement.{statement}
 use Rattle.rounds.proofs.words.group_word.Tie as tie
 
-small : (m c : ℕ) → isGroup m c ≡ true → c < 4096
-small m c g = c-small m c (group-is m c g .1)
-
 add-result : tie.Need-add-result
-add-result c = omega (arith, small (c .before .args .m) (c .before .args .c) (c .before .pre .0))
+add-result c = let a = c .args in omega (arith, c-small (a .m) (a .c) (group-is (a .m) (a .c) (c .pre .0) .1))
 
-sub-result : tie.Need-sub-result
-sub-result c = let m = c .before .args .m in omega (arith, cut 13 m (omega arith), at-most (13 - m) (omega arith))
-
-add-result-2 : tie.Need-add-result-2
-add-result-2 c = omega (arith, small (c .before .args .m) (c .before .args .c) (c .before .pre .0))
+one-sum : (m c : ℕ) → m ≤ 11 → 57344 - 8192 / 2 ^ m % 8192 + c ≡ groupWord m c
+one-sum zero c h = sym (group-zero c)
+one-sum (suc m) c h =
+    let l : 2 ^ (13 - suc m) ≤ 4096 = at-most (13 - suc m) (omega arith) in
+    let e : 8192 / 2 ^ suc m % 8192 ≡ 2 ^ (13 - suc m) = rw (cut 13 (suc m) (omega arith)) (mod-eq-of-lt (omega arith)) in
+    rw (e, group-pos (suc m) c (λ (z : suc m ≡ 0). omega arith) h)
 
 returns : tie.Need-returns
-returns c = sym (ap (λ (n : ℕ). groupWord n (c .before .args .c)) (c .if1 .taken) ∙ group-zero (c .before .args .c))
-
-returns-2 : tie.Need-returns-2
-returns-2 c =
-    let a = c .before .args in
-    rw (group-pos (a .m) (a .c) (c .if1 .left) (omega arith), cut 13 (a .m) (omega arith)) refl
+returns c = one-sum (c .args .m) (c .args .c) (c .pre .1)
 
 pub group-word-spec : {M : Type 1} → statement M
-group-word-spec = tie.close (tie.spec add-result (λ c. search needs) sub-result add-result-2 returns returns-2)
+group-word-spec = tie.close (tie.spec (λ c. search needs) (λ c. search needs) add-result returns)
