@@ -1,11 +1,11 @@
 -- A round lent as a run of six numbers: what a start and a step leave in it, way out by way out.
 -- Assumes nothing.
-use mathlib.Core.Path.{_≡_, refl, sym, ap, ap₂, _∙_, subst}
+use mathlib.Core.Path.{_≡_, refl, sym, ap, _∙_}
 use mathlib.Core.Bool.{Bool, true, false, cond}
 use mathlib.Core.List.{List, [], _∷_, _++_}
-use Prim.Native.Nat.{ℕ, zero, suc, _+_, _≤_, _<_}
+use Prim.Native.Nat.{ℕ, zero, suc, _+_, _/_, _≤_, _<_}
 use native.Mathlib.Omega.{arith}
-use borrow.Author.Tests.{lt-ltb, le-ltb}
+use borrow.Author.Tests.{lt-ltb, le-ltb, ne-eqb}
 use lib.Dec.{ltb}
 use lib.ListN.{length, getD, drop, set}
 use Rattle.refusals.specs.declared.Refusal.{Refusal}
@@ -14,8 +14,10 @@ use Rattle.refusals.specs.Told.{Told, gives, refusal, refusing}
 use Rattle.refusals.specs.Codes.{toldCode}
 use Rattle.refusals.proofs.Codes.{value-told, end-told, refusal-told}
 use Rattle.frames.specs.declared.LineAnswer.{LineAnswer}
+use Rattle.frames.specs.declared.LineAnswer.the-variants.{Silence, Reply, Collision}
 use Rattle.frames.specs.Answers.{toldLine}
-use Rattle.frames.specs.Line.{answerOf, lineAnswer}
+use Rattle.frames.specs.Words.{fCode, wordIn}
+use Rattle.frames.specs.Line.{rightFrame, answerOf, lineAnswer}
 use Rattle.frames.proofs.Apart.{lines-apart}
 use Rattle.groups.specs.Groups.{follows, requestWord}
 use Rattle.rounds.specs.declared.Counts.{Counts}
@@ -24,10 +26,11 @@ use Rattle.rounds.specs.declared.Phase.the-variants.{Asked, Read, Ended}
 use Rattle.rounds.specs.declared.Round.{Round}
 use Rattle.rounds.specs.declared.Step.{Step}
 use Rattle.rounds.specs.declared.Step.the-variants.{Next, End, Refused}
-use Rattle.rounds.specs.Rounds.{countsOf, none, round, stepBy, stepOf, startOf}
+use Rattle.rounds.specs.Rounds.{Verdict, unclear, judge, countsOf, none, round, stepBy, stepOf, startOf}
 use Rattle.rounds.specs.Told.{phaseNumber, told}
 use Rattle.rounds.proofs.Apart.{steps-apart}
 use Rattle.mvb.specs.Rounds.{phaseOf, roundIn, stored, toldStep, runAfter, startAnswer, startRun, roundAnswer, roundRun}
+use Rattle.mvb.specs.Inside.{AsHeard}
 
 -- ---- six numbers
 
@@ -86,18 +89,42 @@ step-ended run bytes h g = (
   simp (le-ltb (length run) 6 h, lt-ltb 1 (getD run 0 0) g),
 )
 
-module _ (run bytes : List ℕ) (h : 6 ≤ length run) (g : getD run 0 0 ≤ 1) {r : Round} (er : r ≡ roundIn run) (a : LineAnswer) (ea : toldLine a ≡ lineAnswer bytes)
-    {step : Step} (es : told step ≡ told (stepOf r a)) where
-  is-step : step ≡ stepOf (roundIn run) (answerOf bytes)
-  is-step = steps-apart step (stepOf r a) es ∙ ap₂ stepOf er (lines-apart a (answerOf bytes) ea)
+-- after a read the answer is not looked at
+unheard : (r : Round) (a b : LineAnswer) → r .phase ≡ Read → stepOf r a ≡ stepOf r b
+unfolding stepBy
+unheard r a b e = simp e
 
-  pub step-answer : (s : Step) → step ≡ s → toldStep s ≡ roundAnswer run bytes
-  unfolding roundAnswer
-  step-answer s e = ap toldStep (sym e ∙ is-step) ∙ simp (le-ltb (length run) 6 h)
+-- another F_code than 12 is no good reply, whether the frame is right or not
+no-reply : (m c : ℕ) (bytes : List ℕ) → length bytes ≡ 3 → ((fCode (wordIn bytes) ≡ 12) → ⊥) → unclear ≡ judge m c (answerOf bytes)
+unfolding answerOf
+no-reply m c bytes l f = simp (ne-eqb (length bytes) 0 (λ z. omega arith)) (go (rightFrame bytes))
+  where
+    go : (b : Bool) → unclear ≡ judge m c (cond b (Reply (wordIn bytes)) Collision)
+    go true = simp (ne-eqb (fCode (wordIn bytes)) 12 f)
+    go false = refl
 
-  pub step-run : (s : Step) → step ≡ s → (run₁ : List ℕ) → run₁ ≡ runAfter run s → run₁ ≡ roundRun run bytes
-  unfolding roundRun
-  step-run s e run₁ e₁ = e₁ ∙ ap (runAfter run) (sym e ∙ is-step) ∙ simp (le-ltb (length run) 6 h, le-ltb 1 (getD run 0 0) g)
+module _ (phase : ℕ) (bytes : List ℕ) where
+  pub heard-read : phase ≡ 1 → AsHeard phase bytes Silence
+  heard-read e r p = unheard r Silence (answerOf bytes) (p ∙ ap phaseOf e)
+
+  pub heard-other : length bytes ≡ 3 → ((getD bytes 0 0 / 16 ≡ 12) → ⊥) → getD bytes 1 0 < 256 → AsHeard phase bytes Collision
+  heard-other l f b r p = ap (λ (v : Verdict). stepBy 8190 follows v r) (no-reply (r .m) (r .c) bytes l (λ e. f (omega arith)))
+
+  pub heard-line : (a : LineAnswer) → toldLine a ≡ lineAnswer bytes → AsHeard phase bytes a
+  heard-line a e r p = ap (stepOf r) (lines-apart a (answerOf bytes) e)
+
+pub is-step : (run bytes : List ℕ) {r : Round} → r ≡ roundIn run → (a : LineAnswer) → AsHeard (getD run 0 0) bytes a → {step : Step} → told step ≡ told (stepOf r a)
+    → step ≡ stepOf (roundIn run) (answerOf bytes)
+unfolding roundIn
+is-step run bytes {r} er a ea {step} es = steps-apart step (stepOf r a) es ∙ ap (λ (x : Round). stepOf x a) er ∙ ea (roundIn run) refl
+
+pub step-taken : (run bytes : List ℕ) → 6 ≤ length run → getD run 0 0 ≤ 1 → {step : Step} → step ≡ stepOf (roundIn run) (answerOf bytes) → (s : Step) → step ≡ s
+    → (run₁ : List ℕ) → run₁ ≡ runAfter run s → (toldStep s ≡ roundAnswer run bytes) × (run₁ ≡ roundRun run bytes)
+unfolding roundAnswer roundRun
+step-taken run bytes h g i s e run₁ e₁ = (
+  ap toldStep (sym e ∙ i) ∙ simp (le-ltb (length run) 6 h),
+  e₁ ∙ ap (runAfter run) (sym e ∙ i) ∙ simp (le-ltb (length run) 6 h, le-ltb 1 (getD run 0 0) g),
+)
 
 -- ---- a start
 

@@ -1,4 +1,5 @@
 pub mod Values
 pub mod Rounds
+pub mod Inside
 pub mod Searches
 pub mod Lists

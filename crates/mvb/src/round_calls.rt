@@ -1,4 +1,5 @@
 // The event round and the search, as C calls them. A round is lent as six numbers: phase, M, C, requests, reads, unresolved.
+use frames::LineAnswer;
 use refusals::Refusal;
 use rounds::Phase;
 use rounds::Round;
@@ -10,6 +11,7 @@ ghost use lib.ListN.{length};
 ghost use Rattle.refusals.specs.Codes.{toldCode};
 ghost use Rattle.rounds.specs.Told.{phaseNumber};
 ghost use Rattle.mvb.specs.Rounds.{phaseOf, roundIn, stored, startAnswer, startRun, roundAnswer, roundRun};
+ghost use Rattle.mvb.specs.Inside.{AsHeard};
 ghost use Rattle.search.specs.Searches.{written};
 ghost use Rattle.mvb.specs.Searches.{searchAnswer, searchRequests};
 
@@ -92,6 +94,20 @@ pub extern "C" fn mvb_round_start(params: u16, run: &mut [u16]) -> u32
     }
 }
 
+// What a round must know of the bytes that came: nothing after a read, whose answer it does not look at; and a word with
+// another F_code than 12 is no good reply, as a collision is none, so that its check sequence need not be computed.
+fn heard(phase: u16, bytes: &[u8]) -> LineAnswer
+    ensures { λ r. ⌜ AsHeard phase (now (bytes .entry)) r ⌝ }
+{
+    if phase == 1 {
+        return LineAnswer::Silence;
+    }
+    if bytes.len() == 3 && bytes[0] / 16 != 12 {
+        return LineAnswer::Collision;
+    }
+    frames::line_answer(bytes)
+}
+
 // Takes the bytes that came for the word handed out last: 4 for a run too short, before all else.
 #[no_mangle]
 pub extern "C" fn mvb_round_answer(run: &mut [u16], bytes: &[u8]) -> u32
@@ -104,8 +120,8 @@ pub extern "C" fn mvb_round_answer(run: &mut [u16], bytes: &[u8]) -> u32
     if 1 < run[0] {
         return END;
     }
-    // Before the round is loaded, so that nothing of it is kept across the call.
-    let answer = frames::line_answer(bytes);
+    // Before the round is loaded, so that nothing of it is kept in registers meanwhile.
+    let answer = heard(run[0], bytes);
     let round = load(run);
     let step = round.answer(answer);
     match step {
