@@ -5,7 +5,7 @@ use numbers::Number;
 use refusals::Refusal;
 ghost use mathlib.Core.Path.{_≡_};
 ghost use mathlib.Core.List.{List, []};
-ghost use Prim.Native.Nat.{ℕ, _^_, _≤_, min};
+ghost use Prim.Native.Nat.{ℕ, _+_, _^_, _≤_, min};
 ghost use lib.ListN.{length, getD, drop, set};
 ghost use Rattle.lists.specs.Rules.{rules};
 ghost use Rattle.lists.specs.Reading.{splitIn, summedIn};
@@ -17,17 +17,26 @@ fn least(a: usize, b: usize) -> usize
     if a < b { a } else { b }
 }
 
-// Adds the weight of the words of a Subcycle to its place: so many more than are done. Most Subcycles have none.
-fn add_weight(sums: &[u32], count: usize, done: usize, more: usize, load: &mut [u32], i: usize)
-    requires { ⌜ Weighable (now sums) count done more (now load) i ⌝ }
-    ensures { λ _. ⌜ now (load .exit) ≡ set (now (load .entry)) i (weighed (now (sums .entry)) count done more (getD (now (load .entry)) i 0)) ⌝ }
+// Adds the weight of the words of a Subcycle to its place: so many more than are done, of which those up to `from` are
+// in the list. Most Subcycles have none. Answers up to which word it came.
+fn add_weight(
+    sums: &[u32],
+    count: usize,
+    from: usize,
+    done: usize,
+    more: usize,
+    load: &mut [u32],
+    i: usize,
+) -> usize
+    requires { ⌜ (from ≡ min done count) × Weighable (now sums) count done more (now load) i ⌝ }
+    ensures { λ r. ⌜ (r ≡ min (done + more) count) × (now (load .exit) ≡ set (now (load .entry)) i (weighed (now (sums .entry)) count done more (getD (now (load .entry)) i 0))) ⌝ }
 {
     if more == 0 {
-        return;
+        return from;
     }
-    let from = least(done, count);
     let to = least(done + more, count);
     load[i] = load[i] + (sums[to] - sums[from]);
+    to
 }
 
 // As many split numbers as load has places; each adds the weight of its words to its place.
@@ -40,13 +49,14 @@ fn read_splits(s: &[u8], at: usize, count: usize, sums: &[u32], load: &mut [u32]
     let mut p = at;
     let mut i = 0;
     let mut done: usize = 0;
+    let mut from: usize = 0;
     while i < load.len() {
         let r = read_within(s, p, 0, 256);
         match r {
             Number::Refused(n) => return Part::Refused(n),
             Number::Value(z, next) => {
                 let more = z as usize;
-                add_weight(sums, count, done, more, load, i);
+                from = add_weight(sums, count, from, done, more, load, i);
                 done += more;
                 p = next;
             }
