@@ -252,7 +252,8 @@ pub fn check_of_word(word: u16) -> u8
     255 - plain_of_word(word as u64)
 }
 
-// The check sequence of a block of any length. The blocks of a frame have two, four or eight bytes.
+// The check sequence of a block of any length. The blocks of a frame have two, four or eight bytes. The longer ones end in
+// one way out: then a word keeps no registers for them.
 pub fn check_of(block: &[u8]) -> u8
     ensures { λ r. ⌜ r ≡ checkOf (now (block .entry)) ⌝ }
 {

@@ -17,8 +17,8 @@ fn least(a: usize, b: usize) -> usize
     if a < b { a } else { b }
 }
 
-// Adds the weight of the words of a Subcycle to its place: so many more than are done, of which those up to `from` are
-// in the list. Most Subcycles have none. Answers up to which word it came.
+// Adds the weight of a Subcycle's words to its place: so many more than are done, both cut at the count. They begin at
+// the word `from`. Most Subcycles have none. Answers where the next one's begin.
 fn add_weight(
     sums: &[u32],
     count: usize,
