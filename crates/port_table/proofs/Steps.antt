@@ -13,7 +13,7 @@ use Rattle.port_table.specs.declared.Port.{Port}
 use Rattle.port_table.specs.declared.Place.{Place}
 use Rattle.port_table.specs.declared.Seen.{Seen}
 use Rattle.port_table.specs.declared.records.Walk.{Walk}
-use Rattle.port_table.specs.Table.{good, portBytes, tableBytes, before, placeOf, noPort}
+use Rattle.port_table.specs.Table.{good, portBytes, tableBytes, before, placeOf, noPort, portOf, listed}
 use Rattle.port_table.specs.Seen.{emptySeen, goodSeen, seenOf}
 use Rattle.port_table.specs.Inside.{nextFrom, noWalk, walkedOf, climbs, follow, placeIn, shownBy, Keeps, Shows}
 use Rattle.port_table.proofs.OneMore.{by-cases, not-both, bytes-more, length-more, good-is, climbs-more, next-more, before-found, before-missed, listed-below}
@@ -41,40 +41,46 @@ shown s a ps e g = let t : good ps ≡ true = sym (shows-good s a ps e) ∙ not-
 abbrev placeAfter : Seen → Port → ℕ → ℕ → Place
 placeAfter s p size a =
     cond (ltb (s .place .at) (s .count)) (s .place)
-    (cond (eqb (p .address) a) (record { at = s .count; offset = s .bytes; «f_code» = p .«f_code»; sink = p .sink })
-    (record { at = s .count + 1; offset = s .bytes + size; «f_code» = 0; sink = 0 }))
+    (cond (eqb (p .address) a) (record { at = s .count; offset = s .bytes; size = size; «f_code» = p .«f_code»; sink = p .sink })
+    (record { at = s .count + 1; offset = s .bytes + size; size = 0; «f_code» = 0; sink = 0 }))
 
 module _ (s : Seen) (p : Port) (size a : ℕ) where
   place-kept : s .place .at < s .count → s .place ≡ placeAfter s p size a
   place-kept h = simp (lt-ltb (s .place .at) (s .count) h)
 
   module _ (h : s .count ≤ s .place .at) where
-    place-here : p .address ≡ a → _≡_ {A = Place} (record { at = s .count; offset = s .bytes; «f_code» = p .«f_code»; sink = p .sink }) (placeAfter s p size a)
+    place-here : p .address ≡ a → _≡_ {A = Place} (record { at = s .count; offset = s .bytes; size = size; «f_code» = p .«f_code»; sink = p .sink }) (placeAfter s p size a)
     place-here e = simp (le-ltb (s .place .at) (s .count) h, eq-eqb (p .address) a e)
 
-    place-on : (p .address ≡ a → ⊥) → _≡_ {A = Place} (record { at = s .count + 1; offset = s .bytes + size; «f_code» = 0; sink = 0 }) (placeAfter s p size a)
+    place-on : (p .address ≡ a → ⊥) → _≡_ {A = Place} (record { at = s .count + 1; offset = s .bytes + size; size = 0; «f_code» = 0; sink = 0 }) (placeAfter s p size a)
     place-on e = simp (le-ltb (s .place .at) (s .count) h, ne-eqb (p .address) a e)
 
--- the place of a port whose records before it, and whose own record, are known
-abbrev placeAt : List Port → Port → Place
-placeAt bs p = record { at = length bs; offset = tableBytes bs; «f_code» = p .«f_code»; sink = p .sink }
+-- the place of a port whose records before it, and whose own record, are known, if there is one
+abbrev placeAt : Bool → List Port → Port → Place
+placeAt there bs p = record { at = length bs; offset = tableBytes bs; size = cond there (portBytes p) 0; «f_code» = p .«f_code»; sink = p .sink }
 
 place-more : (a : ℕ) (ps : List Port) (p : Port) → placeAfter (goodSeen a ps) p (portBytes p) a ≡ goodSeen a (ps ++ p ∷ []) .place
 unfolding before
 place-more a ps p = by-cases (ltb (placeOf a ps) (length ps)) found (λ m. by-cases (eqb (p .address) a) (here m) (on m))
   where
+    now-listed : {there : Bool} → there ≡ listed a (ps ++ p ∷ []) → placeAt there (before a (ps ++ p ∷ [])) (portOf a (ps ++ p ∷ [])) ≡ goodSeen a (ps ++ p ∷ []) .place
+    now-listed e = ap (λ (there : Bool). placeAt there (before a (ps ++ p ∷ [])) (portOf a (ps ++ p ∷ []))) e
+
     found : ltb (placeOf a ps) (length ps) ≡ true → placeAfter (goodSeen a ps) p (portBytes p) a ≡ goodSeen a (ps ++ p ∷ []) .place
     found t =
         let i : placeOf a ps < length ps = ltb-true (placeOf a ps) (length ps) t in
+        let b : before a (ps ++ p ∷ []) ≡ before a ps = before-found a ps (p ∷ []) i in
         sym (place-kept (goodSeen a ps) p (portBytes p) a i)
-        ∙ ap₂ placeAt (sym (before-found a ps (p ∷ []) i)) (sym (List·getD-append ps (p ∷ []) noPort (placeOf a ps) i) ∙ ap (λ (l : List Port). getD (ps ++ p ∷ []) (length l) noPort) (sym (before-found a ps (p ∷ []) i)))
+        ∙ ap₂ (placeAt (listed a ps)) (sym b) (sym (List·getD-append ps (p ∷ []) noPort (placeOf a ps) i) ∙ ap (λ (l : List Port). getD (ps ++ p ∷ []) (length l) noPort) (sym b))
+        ∙ now-listed (t ∙ sym (lt-ltb (placeOf a (ps ++ p ∷ [])) (length (ps ++ p ∷ [])) (omega (arith, ap length b, length-more ps p))))
 
     here : ltb (placeOf a ps) (length ps) ≡ false → eqb (p .address) a ≡ true → placeAfter (goodSeen a ps) p (portBytes p) a ≡ goodSeen a (ps ++ p ∷ []) .place
     here m t =
         let h : length ps ≤ placeOf a ps = ltb-false (placeOf a ps) (length ps) m in
         let b : before a (ps ++ p ∷ []) ≡ ps = before-missed a ps (p ∷ []) h ∙ ap (λ (c : Bool). ps ++ cond c [] (p ∷ [])) t ∙ append-nil ps in
         sym (place-here (goodSeen a ps) p (portBytes p) a h (eqb-true (p .address) a t))
-        ∙ ap₂ placeAt (sym b) (sym (getD-append-seam ps p [] noPort) ∙ ap (λ (l : List Port). getD (ps ++ p ∷ []) (length l) noPort) (sym b))
+        ∙ ap₂ (placeAt true) (sym b) (sym (getD-append-seam ps p [] noPort) ∙ ap (λ (l : List Port). getD (ps ++ p ∷ []) (length l) noPort) (sym b))
+        ∙ now-listed (sym (lt-ltb (placeOf a (ps ++ p ∷ [])) (length (ps ++ p ∷ [])) (omega (arith, ap length b, length-more ps p))))
 
     on : ltb (placeOf a ps) (length ps) ≡ false → eqb (p .address) a ≡ false → placeAfter (goodSeen a ps) p (portBytes p) a ≡ goodSeen a (ps ++ p ∷ []) .place
     on m f =
@@ -82,8 +88,9 @@ place-more a ps p = by-cases (ltb (placeOf a ps) (length ps)) found (λ m. by-ca
         let b : before a (ps ++ p ∷ []) ≡ ps ++ p ∷ [] = before-missed a ps (p ∷ []) h ∙ ap (λ (c : Bool). ps ++ cond c [] (p ∷ [])) f in
         let none : getD (ps ++ p ∷ []) (placeOf a (ps ++ p ∷ [])) noPort ≡ noPort = List·getD-eq-default (ps ++ p ∷ []) noPort (omega (arith, ap length b)) in
         sym (place-on (goodSeen a ps) p (portBytes p) a h (λ e. not-both (eq-eqb (p .address) a e) f))
-        ∙ ap₂ (λ (n k : ℕ). record { at = n; offset = k; «f_code» = 0; sink = 0 }) (sym (length-more ps p)) (sym (bytes-more ps p))
-        ∙ ap₂ placeAt (sym b) (sym none)
+        ∙ ap₂ (λ (n k : ℕ). record { at = n; offset = k; size = 0; «f_code» = 0; sink = 0 }) (sym (length-more ps p)) (sym (bytes-more ps p))
+        ∙ ap₂ (placeAt false) (sym b) (sym none)
+        ∙ now-listed (sym (le-ltb (placeOf a (ps ++ p ∷ [])) (length (ps ++ p ∷ [])) (omega (arith, ap length b))))
 
 -- ---- the walk
 
@@ -136,15 +143,15 @@ module _ (w : Walk) (a : ℕ) (ps : List Port) (k : Keeps w a ps) (p : Port) (go
         (λ b. absurd (omega (arith, listed-below 0 a ps (was .0) (ltb-true (placeOf a ps) (length ps) b), was .1)))
         (λ b. ltb-false (placeOf a ps) (length ps) b)
 
-    place-found : p .address ≡ a → _≡_ {A = Place} (record { at = length ps; offset = w .bytes; «f_code» = p .«f_code»; sink = p .sink }) (placeAfter (goodSeen a ps) p (portBytes p) a)
+    place-found : p .address ≡ a → _≡_ {A = Place} (record { at = length ps; offset = w .bytes; size = size; «f_code» = p .«f_code»; sink = p .sink }) (placeAfter (goodSeen a ps) p (portBytes p) a)
     place-found h =
-        ap (λ (s : Seen). record { at = length ps; offset = s .bytes; «f_code» = p .«f_code»; sink = p .sink }) showed ∙ place-here (goodSeen a ps) p (portBytes p) a (first h) h
+        ap₂ (λ (s : Seen) (n : ℕ). record { at = length ps; offset = s .bytes; size = n; «f_code» = p .«f_code»; sink = p .sink }) showed sized ∙ place-here (goodSeen a ps) p (portBytes p) a (first h) h
 
     abbrev kept : Place
-    kept = record { at = w .at; offset = w .offset; «f_code» = w .«f_code»; sink = w .sink }
+    kept = record { at = w .at; offset = w .offset; size = w .size; «f_code» = w .«f_code»; sink = w .sink }
 
     abbrev behind : ℕ → ℕ → Place
-    behind n o = record { at = n; offset = o; «f_code» = 0; sink = 0 }
+    behind n o = record { at = n; offset = o; size = 0; «f_code» = 0; sink = 0 }
 
     place-stays : (p .address ≡ a → ⊥) → cond (w .found) kept (behind (length (ps ++ p ∷ [])) (w .bytes + size)) ≡ placeAfter (goodSeen a ps) p (portBytes p) a
     place-stays h = by-cases (w .found)
@@ -158,17 +165,17 @@ module _ (w : Walk) (a : ℕ) (ps : List Port) (k : Keeps w a ps) (p : Port) (go
         ∙ place-on (goodSeen a ps) p (portBytes p) a (omega (arith, z)) h)
 
   pub walks-found : (i : ℕ) → length ps ≡ i → p .address ≡ a
-      → Keeps (record { good = good; found = true; «f_code» = p .«f_code»; sink = p .sink; next = p .address + 1; bytes = w .bytes + size; at = i; offset = w .bytes }) a (ps ++ p ∷ [])
+      → Keeps (record { good = good; found = true; «f_code» = p .«f_code»; sink = p .sink; next = p .address + 1; bytes = w .bytes + size; at = i; offset = w .bytes; size = size }) a (ps ++ p ∷ [])
   walks-found i l h = record {
     climbing = still;
     above = sym (next-more 0 ps p);
     small = more-bytes;
     earlier = λ _. omega (arith, length-more ps p);
-    shows = λ t. shows-more t _ (ap (λ (n : ℕ). record { at = n; offset = w .bytes; «f_code» = p .«f_code»; sink = p .sink }) (sym l) ∙ place-found t h);
+    shows = λ t. shows-more t _ (ap (λ (n : ℕ). record { at = n; offset = w .bytes; size = size; «f_code» = p .«f_code»; sink = p .sink }) (sym l) ∙ place-found t h);
   }
 
   pub walks-on : (p .address ≡ a → ⊥)
-      → Keeps (record { good = good; found = w .found; «f_code» = w .«f_code»; sink = w .sink; next = p .address + 1; bytes = w .bytes + size; at = w .at; offset = w .offset }) a (ps ++ p ∷ [])
+      → Keeps (record { good = good; found = w .found; «f_code» = w .«f_code»; sink = w .sink; next = p .address + 1; bytes = w .bytes + size; at = w .at; offset = w .offset; size = w .size }) a (ps ++ p ∷ [])
   walks-on h = record {
     climbing = still;
     above = sym (next-more 0 ps p);

@@ -23,7 +23,7 @@ Walked s a = (ps : List Port) × (s ≡ seenOf a ps)
 
 -- before the first record
 abbrev pub noWalk : Walk
-noWalk = record { good = true; found = false; «f_code» = 0; sink = 0; next = 0; bytes = 0; at = 0; offset = 0 }
+noWalk = record { good = true; found = false; «f_code» = 0; sink = 0; next = 0; bytes = 0; at = 0; offset = 0; size = 0 }
 
 -- how many records are walked: none of more than 256
 abbrev pub walkedOf : ℕ → ℕ
@@ -46,8 +46,8 @@ follow w p = w .good && (leb (w .next) (p .address) && ltb (p .«f_code») 5)
 -- the place that a walk of so many records found
 abbrev pub placeIn : Walk → ℕ → Place
 placeIn w n =
-    cond (w .found) (record { at = w .at; offset = w .offset; «f_code» = w .«f_code»; sink = w .sink })
-    (record { at = n; offset = w .bytes; «f_code» = 0; sink = 0 })
+    cond (w .found) (record { at = w .at; offset = w .offset; size = w .size; «f_code» = w .«f_code»; sink = w .sink })
+    (record { at = n; offset = w .bytes; size = 0; «f_code» = 0; sink = 0 })
 
 -- what it shows of a good table
 abbrev pub shownBy : Walk → ℕ → Seen

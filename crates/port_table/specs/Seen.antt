@@ -7,11 +7,11 @@ use lib.ListN.{length}
 use Rattle.port_table.specs.declared.Port.{Port}
 use Rattle.port_table.specs.declared.Place.{Place}
 use Rattle.port_table.specs.declared.Seen.{Seen}
-use Rattle.port_table.specs.Table.{good, tableBytes, placeOf, offsetOf, portOf}
+use Rattle.port_table.specs.Table.{good, tableBytes, placeOf, offsetOf, sizeOf, portOf}
 
 -- the place of no port at all
 abbrev pub noPlace : Place
-noPlace = record { at = 0; offset = 0; «f_code» = 0; sink = 0 }
+noPlace = record { at = 0; offset = 0; size = 0; «f_code» = 0; sink = 0 }
 
 -- what no record shows, or a table that is not good
 abbrev pub emptySeen : Bool → Seen
@@ -23,7 +23,7 @@ goodSeen a ps = record {
   good = true;
   count = length ps;
   bytes = tableBytes ps;
-  place = record { at = placeOf a ps; offset = offsetOf a ps; «f_code» = portOf a ps .«f_code»; sink = portOf a ps .sink };
+  place = record { at = placeOf a ps; offset = offsetOf a ps; size = sizeOf a ps; «f_code» = portOf a ps .«f_code»; sink = portOf a ps .sink };
 }
 
 -- what a walk shows

@@ -51,6 +51,10 @@ noPort = record { address = 0; «f_code» = 0; sink = 0 }
 abbrev pub portOf : ℕ → List Port → Port
 portOf a ps = getD ps (placeOf a ps) noPort
 
+-- its data in bytes; none where no record has the address
+abbrev pub sizeOf : ℕ → List Port → ℕ
+sizeOf a ps = cond (listed a ps) (portBytes (portOf a ps)) 0
+
 -- "sink or source": 0 is a source, anything else a sink
 abbrev pub isSink : Port → Bool
 isSink p = not (eqb (p .sink) 0)

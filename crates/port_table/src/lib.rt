@@ -14,10 +14,11 @@ pub struct Port {
     pub sink: u8,
 }
 
-// Where the port of an address lies: so many records and so many bytes behind the first.
+// Where the port of an address lies, so many records and so many bytes behind the first, and how many bytes it has.
 pub struct Place {
     pub at: usize,
     pub offset: usize,
+    pub size: usize,
     pub f_code: u8,
     pub sink: u8,
 }

@@ -10,7 +10,7 @@ ghost use Rattle.port_table.specs.Seen.{emptySeen};
 ghost use Rattle.port_table.specs.Inside.{noWalk, walkedOf, follow, placeIn, OnWalk, WalkedOn, Shows};
 
 // What the walk keeps: whether the records so far are in order, one more than their last address, their bytes, and
-// whether one has the address, with its place, offset, F_code and direction.
+// whether one has the address, with its place, offset, size, F_code and direction.
 pub(crate) struct Walk {
     good: bool,
     found: bool,
@@ -20,6 +20,7 @@ pub(crate) struct Walk {
     bytes: usize,
     at: usize,
     offset: usize,
+    size: usize,
 }
 
 // Before the first record.
@@ -35,6 +36,7 @@ pub(crate) fn none() -> Walk
         bytes: 0,
         at: 0,
         offset: 0,
+        size: 0,
     }
 }
 
@@ -80,7 +82,8 @@ pub(crate) fn step(walk: Walk, i: usize, port: Port, address: u16) -> Walk
 {
     let good = follows(walk, port);
     let next = port.address as u32 + 1;
-    let bytes = walk.bytes + data_bytes(port.f_code);
+    let size = data_bytes(port.f_code);
+    let bytes = walk.bytes + size;
     if port.address == address {
         return Walk {
             good,
@@ -91,6 +94,7 @@ pub(crate) fn step(walk: Walk, i: usize, port: Port, address: u16) -> Walk
             bytes,
             at: i,
             offset: walk.bytes,
+            size,
         };
     }
     Walk {
@@ -102,6 +106,7 @@ pub(crate) fn step(walk: Walk, i: usize, port: Port, address: u16) -> Walk
         bytes,
         at: walk.at,
         offset: walk.offset,
+        size: walk.size,
     }
 }
 
@@ -115,6 +120,7 @@ fn not_good() -> Seen
         place: Place {
             at: 0,
             offset: 0,
+            size: 0,
             f_code: 0,
             sink: 0,
         },
@@ -130,6 +136,7 @@ fn place_in(walk: Walk, count: usize) -> Place
         return Place {
             at: walk.at,
             offset: walk.offset,
+            size: walk.size,
             f_code: walk.f_code,
             sink: walk.sink,
         };
@@ -137,6 +144,7 @@ fn place_in(walk: Walk, count: usize) -> Place
     Place {
         at: count,
         offset: walk.bytes,
+        size: 0,
         f_code: 0,
         sink: 0,
     }

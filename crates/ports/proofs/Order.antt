@@ -21,7 +21,7 @@ use Rattle.frames.specs.Slave.{slaveData, slaveFrame, slaveRead, slaveReadOut, 
 use Rattle.port_table.specs.declared.Port.{Port}
 use Rattle.port_table.specs.declared.Seen.{Seen}
 use Rattle.port_table.specs.declared.Tested.{Tested}
-use Rattle.port_table.specs.Table.{good, portOf}
+use Rattle.port_table.specs.Table.{good, portBytes, placeOf, portOf}
 use Rattle.port_table.specs.Seen.{emptySeen, goodSeen, seenOf}
 use Rattle.port_table.specs.Tested.{emptyTested, goodTested, testedOf}
 use Rattle.port_table.proofs.OneMore.{by-cases, size-most, good-split}
@@ -338,6 +338,14 @@ module _ (s : Seen) (store d : List ℕ) where
                 let k : fillRefusal ps store a d ≡ 0 = fill-shown a ps e ∙ on in
                 let z = shown s a ps e g .1 in
                 (ap toldCode er ∙ value-told 0 (omega arith) ∙ answered-yes k (0 ∷ []), e0 ∙ ap (λ (t : Seen). replaced (t .place .offset) d store) z ∙ changed k _ store)
+
+-- the size that a walk shows is that of the port's row
+pub size-is : (s : Seen) → Showed s → not (s .good) ≡ false → s .place .at < s .count → s .place .size ≡ dataBytes (s .place .«f_code»)
+size-is s (a, (ps, e)) g h =
+    let q : s ≡ goodSeen a ps = shown s a ps e g .1 in
+    ap (λ (x : Seen). x .place .size) q
+    ∙ ap (λ (b : Bool). cond b (portBytes (portOf a ps)) 0) (lt-ltb (placeOf a ps) (length ps) (subst (λ (x : Seen). x .place .at < x .count) q h))
+    ∙ sym (ap (λ (x : Seen). dataBytes (x .place .«f_code»)) q)
 
 -- a good table has at most 256 records
 pub few : (s : Seen) → Showed s → not (s .good) ≡ false → s .count ≤ 256

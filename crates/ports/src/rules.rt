@@ -6,7 +6,6 @@ ghost use mathlib.Core.Path.{_≡_};
 ghost use Prim.Native.Nat.{_+_, _<_, _≤_};
 ghost use lib.ListN.{length};
 ghost use Rattle.frames.specs.Words.{fCode, address};
-ghost use Rattle.rows.specs.Rows.{dataBytes};
 ghost use Rattle.port_table.specs.Inside.{Walked};
 ghost use Rattle.ports.specs.Lent.{replaced};
 ghost use Rattle.ports.specs.Inside.{Arrived, Answered, HasRead, Filled, Showed};
@@ -22,13 +21,6 @@ fn f_code_of(word: u16) -> u8
     ensures { λ r. ⌜ r ≡ fCode word ⌝ }
 {
     (word / 4096) as u8
-}
-
-fn data_bytes(f_code: u8) -> usize
-    ensures { λ r. ⌜ r ≡ dataBytes «f_code» ⌝ }
-{
-    let row = rows::row_of(f_code);
-    (row[0] / 8) as usize
 }
 
 // Data into the store, from a place on.
@@ -107,7 +99,7 @@ pub(crate) fn answer(seen: Seen, store: &[u8], word: u16, out: &mut [u8]) -> u32
         return Refusal::WrongDirection.code();
     }
     let offset = place.offset;
-    let end = offset + data_bytes(f_code);
+    let end = offset + place.size;
     let wrote = frames::slave_write(f_code, &store[offset..end], out);
     match wrote {
         Wrote::Bytes(n) => value(n),
@@ -138,7 +130,7 @@ pub(crate) fn read(seen: Seen, store: &[u8], ages: &[u16], out: &mut [u8], age: 
     if place.sink == 0 {
         return Refusal::WrongDirection.code();
     }
-    let size = data_bytes(place.f_code);
+    let size = place.size;
     if out.len() < size {
         return Refusal::TooShort.code();
     }
@@ -168,7 +160,7 @@ pub(crate) fn fill(seen: Seen, store: &mut [u8], data: &[u8]) -> u32
     if place.sink != 0 {
         return Refusal::WrongDirection.code();
     }
-    if data.len() != data_bytes(place.f_code) {
+    if data.len() != place.size {
         return Refusal::WrongLength.code();
     }
     put(data, store, place.offset);

@@ -1,6 +1,6 @@
 -- `ports::rules::answer` meets its contract: each way out is one of the order of checks.
 -- Assumes nothing.
-use mathlib.Core.Path.{sym, ap, _∙_}
+use mathlib.Core.Path.{_≡_, ap, _∙_}
 use Prim.Native.Nat.{_+_, _≤_}
 use native.Mathlib.Omega.{arith}
 use lib.ListN.{length}
@@ -9,7 +9,7 @@ use Rattle.ports.proofs.Frames.{told-bytes, told-refused, written-small
 use Rattle.frames.specs.Words.{address}
 use Rattle.ports.proofs.Bytes.{port-within, place-small}
 use borrow.Author.Needs.{needs}
-use Rattle.ports.proofs.Order.{answer-13, answer-store, answer-14, answer-15, answer-16, answer-17, answer-done, answer-out}
+use Rattle.ports.proofs.Order.{answer-13, answer-store, answer-14, answer-15, answer-16, answer-17, answer-done, answer-out, size-is}
 use Rattle.ports.proofs.rules.answer.Statement.{statement}
 use Rattle.ports.proofs.rules.answer.Tie as tie
 
@@ -58,17 +58,23 @@ returns-6 c =
     let s : tie.Start = k1 .before .before .before in
     answer-17 (s .args .seen) _ _ _ _ (k1 .if1 .left) (k2 .if2 .left) _ (k3 .before .f-code-of .ensures) (k3 .if3 .left) (k4 .if4 .left) (k5 .if5 .left) (c .before .if6 .taken) (c .code6 .ensures)
 
+-- the port's bytes
+sized : (c : tie.Else4) → let s : tie.Start = c .before .before .before .before .before .before .before .before .before .before .before in s .args .seen .place .size ≡ dataBytes (s .args .seen .place .«f_code»)
+sized c =
+    let k1 : tie.Else1 = c .before .before .before .before .before .before .before .before in
+    let s : tie.Start = k1 .before .before .before in
+    size-is (s .args .seen) (address (s .args .word), s .pre) (k1 .if1 .left) (c .if4 .left)
+
 -- the port's end lies within the store
-inside : (c : tie.After-data-bytes) → let s : tie.Start = c .before .before .before .before .before .before .before .before .before .before .before .before .before .before .before .before in s .args .seen .place .offset + c .data-bytes .result ≤ length (s .args .store .now)
+inside : (c : tie.Else6) → let s : tie.Start = c .before .before .before .before .before .before .before .before .before .before .before .before .before .before .before in s .args .seen .place .offset + s .args .seen .place .size ≤ length (s .args .store .now)
 inside c =
-    let k6 : tie.Else6 = c .before in
-    let k5 : tie.Else5 = k6 .before .before in
+    let k5 : tie.Else5 = c .before .before in
     let k4 : tie.Else4 = k5 .before .before in
     let k3 : tie.Else3 = k4 .before .before .before .before in
     let k2 : tie.Else2 = k3 .before .before in
     let k1 : tie.Else1 = k2 .before .before in
     let s : tie.Start = k1 .before .before .before in
-    port-within (s .args .seen) (address (s .args .word)) (s .pre) (k1 .if1 .left) (k4 .if4 .left) _ (k2 .if2 .left) _ (c .data-bytes .ensures ∙ ap dataBytes (sym (k5 .if5 .left)))
+    port-within (s .args .seen) (address (s .args .word)) (s .pre) (k1 .if1 .left) (k4 .if4 .left) _ (k2 .if2 .left) _ (sized k4)
 
 add-end : tie.Need-add-end
 add-end c =
@@ -79,31 +85,29 @@ add-end c =
     let k2 : tie.Else2 = k3 .before .before in
     let k1 : tie.Else1 = k2 .before .before in
     let s : tie.Start = k1 .before .before .before in
-    omega (arith, place-small (s .args .seen) (address (s .args .word)) (s .pre) (k1 .if1 .left) (k4 .if4 .left) _ (c .data-bytes .ensures ∙ ap dataBytes (sym (k5 .if5 .left))))
+    omega (arith, place-small (s .args .seen) (address (s .args .word)) (s .pre) (k1 .if1 .left) (k4 .if4 .left) _ (sized k4))
 
 returns-7 : tie.Need-returns-7
 returns-7 c =
-    let sized : tie.After-data-bytes = c .before .before .before .before .before .before .before .before .before in
-    let k6 : tie.Else6 = sized .before in
+    let k6 : tie.Else6 = c .before .before .before .before .before .before .before .before .before .before in
     let k5 : tie.Else5 = k6 .before .before in
     let k4 : tie.Else4 = k5 .before .before in
     let k3 : tie.Else3 = k4 .before .before .before .before in
     let k2 : tie.Else2 = k3 .before .before in
     let k1 : tie.Else1 = k2 .before .before in
     let s : tie.Start = k1 .before .before .before in
-    answer-done (s .args .seen) _ _ _ _ (k1 .if1 .left) (k2 .if2 .left) _ (k3 .before .f-code-of .ensures) (k3 .if3 .left) (k4 .if4 .left) (k5 .if5 .left) (k6 .if6 .left) _ (sized .data-bytes .ensures) (inside sized) _ _ (told-bytes (c .before .before .wrote .given .1) (c .before .before .before .before .before .before .slave-write .ensures .0)) (c .before .before .before .before .before .before .slave-write .ensures .1) (c .value .ensures)
+    answer-done (s .args .seen) _ _ _ _ (k1 .if1 .left) (k2 .if2 .left) _ (k3 .before .f-code-of .ensures) (k3 .if3 .left) (k4 .if4 .left) (k5 .if5 .left) (k6 .if6 .left) _ (sized k4 ∙ ap dataBytes (k5 .if5 .left)) (inside k6) _ _ (told-bytes (c .before .before .wrote .given .1) (c .before .before .before .before .before .before .slave-write .ensures .0)) (c .before .before .before .before .before .before .slave-write .ensures .1) (c .value .ensures)
 
 returns-8 : tie.Need-returns-8
 returns-8 c =
-    let sized : tie.After-data-bytes = c .before .before .before .before .before .before .before .before .before in
-    let k6 : tie.Else6 = sized .before in
+    let k6 : tie.Else6 = c .before .before .before .before .before .before .before .before .before .before in
     let k5 : tie.Else5 = k6 .before .before in
     let k4 : tie.Else4 = k5 .before .before in
     let k3 : tie.Else3 = k4 .before .before .before .before in
     let k2 : tie.Else2 = k3 .before .before in
     let k1 : tie.Else1 = k2 .before .before in
     let s : tie.Start = k1 .before .before .before in
-    answer-out (s .args .seen) _ _ _ _ (k1 .if1 .left) (k2 .if2 .left) _ (k3 .before .f-code-of .ensures) (k3 .if3 .left) (k4 .if4 .left) (k5 .if5 .left) (k6 .if6 .left) _ (sized .data-bytes .ensures) (inside sized) (c .before .before .wrote2 .given .0 .0) _ (told-refused (c .before .before .wrote2 .given .1) (c .before .before .before .before .before .before .slave-write .ensures .0)) (c .before .before .before .before .before .before .slave-write .ensures .1) (c .code7 .ensures)
+    answer-out (s .args .seen) _ _ _ _ (k1 .if1 .left) (k2 .if2 .left) _ (k3 .before .f-code-of .ensures) (k3 .if3 .left) (k4 .if4 .left) (k5 .if5 .left) (k6 .if6 .left) _ (sized k4 ∙ ap dataBytes (k5 .if5 .left)) (inside k6) (c .before .before .wrote2 .given .0 .0) _ (told-refused (c .before .before .wrote2 .given .1) (c .before .before .before .before .before .before .slave-write .ensures .0)) (c .before .before .before .before .before .before .slave-write .ensures .1) (c .code7 .ensures)
 
 pub answer-spec : {M : Type 1} → statement M
 answer-spec =
@@ -122,11 +126,10 @@ answer-spec =
     returns-5
     (λ c κs. search needs)
     returns-6
-    (λ c κs. search needs)
     add-end
     (λ c. search needs)
     (λ c. search needs)
-    (λ c. inside c)
+    (λ c. inside (c .before))
     (λ c κs. search needs)
     (λ c. search needs)
     (λ c κs. omega (arith, written-small _ _ _ _ (told-bytes (c .before .wrote .given .1) (c .before .before .before .before .before .slave-write .ensures .0))))
