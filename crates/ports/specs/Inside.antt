@@ -52,10 +52,10 @@ olderBy bit age = cond (eqb bit 0) age (older age)
 abbrev pub partEnd : ℕ → ℕ → ℕ
 partEnd from count = min (from + 64) count
 
--- whatever table a part is of: ages that are done up to its first record are done up to the end
-abbrev pub AgedPart : ℕ → ℕ → ℕ → List ℕ → List ℕ → Type 0
-AgedPart part from to ages ages' =
-    (ps : List Port) (first : List ℕ) → part ≡ sinkBits (take 64 (drop from ps)) → to ≤ from + 64 → to ≤ length ps → ages ≡ aged (take from ps) first → ages' ≡ aged (take to ps) first
+-- whatever table the bits are of: ages that are done up to the first record of the bits are done up to the end
+abbrev pub AgedRun : ℕ → ℕ → ℕ → List ℕ → List ℕ → Type 0
+AgedRun bits from to ages ages' =
+    (ps : List Port) (first : List ℕ) (m : ℕ) → bits ≡ sinkBits (take m (drop from ps)) → to ≤ from + m → to ≤ length ps → ages ≡ aged (take from ps) first → ages' ≡ aged (take to ps) first
 
 -- the ages of a good table
 abbrev pub AgedAll : Tested → List ℕ → List ℕ → Type 0

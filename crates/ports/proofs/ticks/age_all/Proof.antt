@@ -11,7 +11,7 @@ use Rattle.port_table.specs.declared.Port.{Port}
 use Rattle.port_table.specs.declared.Tested.{Tested}
 use Rattle.port_table.specs.Tested.{goodTested}
 use Rattle.ports.specs.Ticking.{aged}
-use Rattle.ports.specs.Inside.{partEnd, AgedPart, AgedAll}
+use Rattle.ports.specs.Inside.{partEnd, AgedRun, AgedAll}
 use Rattle.ports.proofs.Ageing.{aged-none, counted, part-bits, part-taken}
 use Rattle.ports.proofs.ticks.age_all.Statement.{statement}
 use Rattle.ports.proofs.ticks.age_all.Tie as tie
@@ -26,10 +26,10 @@ Inv-loop ages₀ tested k₀ ages k = (k ≤ 4) × (length ages ≡ length ages�
 abbrev μ-loop : tie.MeasureT-loop
 μ-loop ages₀ tested k₀ ages k = 4 - k
 
-turn : (t : Tested) (ages₀ ages ages' : List ℕ) (k to : ℕ) → k < 4 → to ≡ partEnd (k * 64) (t .count) → AgedPart (getD (t .sinks) k 0) (k * 64) to ages ages' → Done t ages₀ ages k → Done t ages₀ ages' (k + 1)
+turn : (t : Tested) (ages₀ ages ages' : List ℕ) (k to : ℕ) → k < 4 → to ≡ partEnd (k * 64) (t .count) → AgedRun (getD (t .sinks) k 0) (k * 64) to ages ages' → Done t ages₀ ages k → Done t ages₀ ages' (k + 1)
 turn t ages₀ ages ages' k to h e part d ps g =
     let n = counted t ps g in
-    part ps ages₀ (part-bits t ps g k h) (omega arith) (omega arith) (d ps g)
+    part ps ages₀ 64 (part-bits t ps g k h) (omega arith) (omega arith) (d ps g)
     ∙ ap (λ (l : List Port). aged l ages₀) (part-taken ps (k * 64) to ((k + 1) * 64) (e ∙ ap (partEnd (k * 64)) n) (omega arith))
 
 ended : (t : Tested) (ages₀ ages : List ℕ) (k : ℕ) → t .count ≤ k * 64 → Done t ages₀ ages k → AgedAll t ages₀ ages
@@ -44,7 +44,7 @@ age-part-requires c κs =
     let within : tie.In-loop Inv-loop μ-loop = c .before .before .before in
     let start : tie.Start Inv-loop μ-loop = within .before .before .before in
     let e = c .before .before .part-end .ensures in
-    (omega (arith, within .loop-test .taken), omega (arith, start .pre .1, within .before .loop .inv .1))
+    (omega (arith, within .loop-test .taken), omega (arith, start .pre .0), omega (arith, start .pre .1, within .before .loop .inv .1))
 
 loop-again : tie.Need-loop-again Inv-loop μ-loop
 loop-again c =

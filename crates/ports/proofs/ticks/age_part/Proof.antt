@@ -1,25 +1,15 @@
--- `ports::ticks::age_part` meets its contract: each turn ages one record more, and the bits that are left are those of the records after it.
+-- `ports::ticks::age_part` meets its contract: each turn ages eight records more, and the bits that are left are those of the records after them.
 -- Assumes nothing.
-use mathlib.Core.Path.{_≡_, refl, sym, ap, _∙_, subst}
+use mathlib.Core.Path.{_≡_, refl, ap, _∙_}
 use mathlib.Core.List.{List}
-use Prim.Native.Nat.{ℕ, suc, _+_, _-_, _/_, _%_, _≤_, _<_}
-use native.Mathlib.Numerals.{add-one}
+use Prim.Native.Nat.{ℕ, _+_, _-_, _/_, _≤_}
 use native.Mathlib.Omega.{arith}
-use borrow.Author.Needs.{needs}
-use lib.ListN.{length, getD, set, take, drop, length-set}
-use Rattle.port_table.specs.declared.Port.{Port}
+use lib.ListN.{length, take, drop}
 use Rattle.port_table.specs.Tested.{sinkBits}
-use Rattle.ports.specs.Ticking.{aged}
-use Rattle.ports.specs.Inside.{olderBy}
-use Rattle.ports.proofs.Ageing.{age-next, bits-next}
+use Rattle.ports.specs.Inside.{AgedRun}
+use Rattle.ports.proofs.Ageing.{bits-after, Done, starts}
 use Rattle.ports.proofs.ticks.age_part.Statement.{statement}
 use Rattle.ports.proofs.ticks.age_part.Tie as tie
-
--- whatever the table: the ages before record i are done, and the bits from it on are left
-abbrev Done : ℕ → ℕ → ℕ → List ℕ → List ℕ → ℕ → ℕ → Type 0
-Done part from to ages₀ ages left i =
-    (ps : List Port) (first : List ℕ) → part ≡ sinkBits (take 64 (drop from ps)) → to ≤ from + 64 → to ≤ length ps → ages₀ ≡ aged (take from ps) first
-    → (ages ≡ aged (take i ps) first) × (left ≡ sinkBits (take (from + 64 - i) (drop i ps)))
 
 abbrev Inv-loop : tie.InvT-loop
 Inv-loop part from to ages₀ left₀ i₀ ages left i = (from ≤ i) × (i ≤ to) × (length ages ≡ length ages₀) × Done part from to ages₀ ages left i
@@ -27,40 +17,49 @@ Inv-loop part from to ages₀ left₀ i₀ ages left i = (from ≤ i) × (i ≤ 
 abbrev μ-loop : tie.MeasureT-loop
 μ-loop part from to ages₀ left₀ i₀ ages left i = to - i
 
-starts : (part from to : ℕ) (ages₀ : List ℕ) → Done part from to ages₀ ages₀ part from
-starts part from to ages₀ ps first e far all done = (done, e ∙ ap (λ (n : ℕ). sinkBits (take n (drop from ps))) (let z : 64 ≡ from + 64 - from = omega arith in z))
+turn : (part from to : ℕ) (ages₀ ages ages' : List ℕ) (left i : ℕ) → from ≤ i → i + 8 ≤ to → AgedRun left i (i + 8) ages ages' → Done part from to ages₀ ages left i → Done part from to ages₀ ages' (left / 256) (i + 8)
+turn part from to ages₀ ages ages' left i h k run d ps first m p far all done =
+    let s = d ps first m p far all done in (
+      run ps first (from + m - i) (s .1) (omega arith) (omega arith) (s .0),
+      bits-after ps i (from + m - i) left 8 (s .1) (omega arith) (omega arith) ∙ ap (λ (n : ℕ). sinkBits (take n (drop (i + 8) ps))) (let z : from + m - i - 8 ≡ from + m - (i + 8) = omega arith in z),
+    )
 
-turn : (part from to : ℕ) (ages₀ ages : List ℕ) (left i age : ℕ) → i < to → i < length ages → age ≡ olderBy (left % 2) (getD ages i 0) → Done part from to ages₀ ages left i
-    → Done part from to ages₀ (set ages i age) (left / 2) (i + 1)
-turn part from to ages₀ ages left i age h k e d ps first p far all done =
-    let s = d ps first p far all done in
-    let m : ℕ = from + 64 - suc i in
-    let bits : left ≡ sinkBits (take (suc m) (drop i ps)) = s .1 ∙ ap (λ (n : ℕ). sinkBits (take n (drop i ps))) (let z : from + 64 - i ≡ suc (from + 64 - suc i) = omega arith in z) in
-    let in-table : i < length ps = omega arith in
-    subst (λ (j : ℕ). (set ages i age ≡ aged (take j ps) first) × (left / 2 ≡ sinkBits (take (from + 64 - j) (drop j ps)))) (sym (add-one i))
-    (age-next ps first ages i m left in-table (s .0) k bits age e, bits-next ps first ages i m left in-table (s .0) k bits)
+ended : (part from to : ℕ) (ages₀ ages ages' : List ℕ) (left i : ℕ) → from ≤ i → i ≤ to → AgedRun left i to ages ages' → Done part from to ages₀ ages left i → AgedRun part from to ages₀ ages'
+ended part from to ages₀ ages ages' left i h k run d ps first m p far all done =
+    let s = d ps first m p far all done in
+    run ps first (from + m - i) (s .1) (omega arith) all (s .0)
 
-ended : (part from to : ℕ) (ages₀ ages : List ℕ) (left i : ℕ) → i ≡ to → Done part from to ages₀ ages left i
-    → (ps : List Port) (first : List ℕ) → part ≡ sinkBits (take 64 (drop from ps)) → to ≤ from + 64 → to ≤ length ps → ages₀ ≡ aged (take from ps) first → ages ≡ aged (take to ps) first
-ended part from to ages₀ ages left i e d ps first p far all done = d ps first p far all done .0 ∙ ap (λ (n : ℕ). aged (take n ps) first) e
+age-eight-requires : tie.Need-age-eight-requires Inv-loop μ-loop
+age-eight-requires c κs =
+    let within : tie.In-loop Inv-loop μ-loop = c .before in
+    let start : tie.Start Inv-loop μ-loop = within .before .before .before in
+    (omega (arith, within .loop-test .taken, start .pre .1), omega (arith, within .loop-test .taken, start .pre .2, within .before .loop .inv .2))
 
 loop-again : tie.Need-loop-again Inv-loop μ-loop
 loop-again c =
-    let here : tie.At-loop Inv-loop μ-loop = c .before .before .before in
+    let aged-eight : tie.After-age-eight Inv-loop μ-loop = c .before .before in
+    let within : tie.In-loop Inv-loop μ-loop = aged-eight .before .before in
+    let here : tie.At-loop Inv-loop μ-loop = within .before in
     let start : tie.Start Inv-loop μ-loop = here .before .before in
-    let inv = here .loop .inv in
-    let more : here .loop .i < start .args .to = c .before .before .loop-test .taken in (
+    let inv = here .loop .inv in (
       omega (arith, inv .0),
-      omega arith,
-      length-set (here .loop .ages) _ _ ∙ inv .2,
-      turn _ _ (start .args .to) _ (here .loop .ages) (here .loop .left) _ _ more (omega (arith, start .pre .1, inv .2)) (c .older .ensures) (inv .3),
+      within .loop-test .taken,
+      aged-eight .age-eight .kept .1 .1 .0 ∙ inv .2,
+      turn _ _ (start .args .to) _ (here .loop .ages) _ (here .loop .left) (here .loop .i) (inv .0) (within .loop-test .taken) (aged-eight .age-eight .ensures) (inv .3),
     )
+
+age-few-requires : tie.Need-age-few-requires Inv-loop μ-loop
+age-few-requires c κs =
+    let here : tie.At-loop Inv-loop μ-loop = c .before .before in
+    let start : tie.Start Inv-loop μ-loop = here .before .before in
+    (here .loop .inv .1, omega (arith, start .pre .2, here .loop .inv .2))
 
 returns : tie.Need-returns Inv-loop μ-loop
 returns c =
-    let here : tie.At-loop Inv-loop μ-loop = c .before in
+    let aged-few : tie.After-age-few Inv-loop μ-loop = c .before .before in
+    let here : tie.At-loop Inv-loop μ-loop = aged-few .before .before .before in
     let start : tie.Start Inv-loop μ-loop = here .before .before in
-    ended _ _ (start .args .to) _ (here .loop .ages) (here .loop .left) (here .loop .i) (omega (arith, here .loop .inv .1, c .loop-test .left)) (here .loop .inv .3)
+    ended _ _ (start .args .to) _ (here .loop .ages) _ (here .loop .left) (here .loop .i) (here .loop .inv .0) (here .loop .inv .1) (aged-few .age-few .ensures) (here .loop .inv .3)
 
 pub age-part-spec : {M : Type 1} → statement M
 age-part-spec =
@@ -69,13 +68,11 @@ age-part-spec =
     Inv-loop
     μ-loop
     (λ c. (omega arith, c .before .pre .0, refl, starts _ _ _ _))
-    (λ c. search needs)
-    (λ c. omega arith)
-    (λ c κs. search needs)
-    (λ c. search needs)
-    (λ c. omega arith)
-    (λ c. search needs)
-    (λ c. omega arith)
+    (λ c. omega (arith, c .loop .inv .1, c .before .before .pre .1))
+    age-eight-requires
+    (λ c. omega (arith, c .before .before .before .before .loop-test .taken, c .before .before .before .before .before .before .before .pre .1))
+    (λ c. omega (arith, c .before .before .before .before .loop-test .taken))
     loop-again
-    (λ c. search needs)
+    age-few-requires
+    (λ c. c .before .before .age-few .kept .1 .1 .1 .0 ∙ c .before .before .before .before .before .loop .inv .2)
     returns)

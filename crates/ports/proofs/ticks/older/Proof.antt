@@ -11,11 +11,11 @@ use Rattle.ports.specs.Inside.{olderBy}
 use Rattle.ports.proofs.ticks.older.Statement.{statement}
 use Rattle.ports.proofs.ticks.older.Tie as tie
 
-source : (bit age : ℕ) → bit ≡ 0 → age ≡ olderBy bit age
-source bit age e = sym (ap (λ (b : Bool). cond b age (older age)) (eq-eqb bit 0 e))
+source : (mark age : ℕ) → mark ≡ 0 → age ≡ olderBy mark age
+source mark age e = sym (ap (λ (b : Bool). cond b age (older age)) (eq-eqb mark 0 e))
 
-sinks : (bit age next : ℕ) → (bit ≡ 0 → ⊥) → next ≡ older age → next ≡ olderBy bit age
-sinks bit age next e n = n ∙ sym (ap (λ (b : Bool). cond b age (older age)) (ne-eqb bit 0 e))
+sinks : (mark age next : ℕ) → (mark ≡ 0 → ⊥) → next ≡ older age → next ≡ olderBy mark age
+sinks mark age next e n = n ∙ sym (ap (λ (b : Bool). cond b age (older age)) (ne-eqb mark 0 e))
 
 pub older-spec : {M : Type 1} → statement M
 older-spec =
