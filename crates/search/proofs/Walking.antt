@@ -1,14 +1,14 @@
 -- Each way through the search of a group, and through the search of the set.
 -- Assumes nothing.
 use mathlib.Core.Path.{_≡_, refl, sym, ap, _∙_, subst}
-use mathlib.Core.Bool.{Bool, true, false}
+use mathlib.Core.Bool.{Bool, true, false, true≢false, false≢true}
 use mathlib.Core.List.{List, [], _∷_, _++_, List·Memᴰ}
 use mathlib.Core.List.List·Memᴰ.{List·Memᴰ·head}
 use Prim.Native.Nat.{ℕ, zero, suc, _+_, _-_, _%_, _^_, _≤_, _<_}
 use native.Mathlib.Omega.{arith}
 use native.Mathlib.Nat.{add-zero}
 use lib.Dec.{leb}
-use lib.ListN.{length, length-append, set, drop}
+use lib.ListN.{length, length-append, length-set, set, drop}
 use lib.Pow.{pow-mono, pow-pos}
 use borrow.Author.Tests.{lt-ltb, le-ltb, eq-eqb, ne-eqb, leb-true, leb-false}
 use Rattle.refusals.specs.Told.{Told, gives, refusal}
@@ -24,7 +24,7 @@ use Rattle.groups.proofs.Members.{member}
 use Rattle.groups.proofs.Counting.{set-count}
 use Rattle.groups.proofs.Costs.{finds, devices-few, requests-few, once, collided, halved}
 use Rattle.search.specs.Searches.{inSet, searched, written}
-use Rattle.search.specs.Inside.{answerTo, markOf, Marked, placed}
+use Rattle.search.specs.Inside.{answerTo, markOf, Marked, placed, Walks, Settled}
 use Rattle.search.proofs.Descent.{none-in}
 
 -- ---- what a group answers
@@ -94,97 +94,121 @@ placed-first [] out h = refl
 placed-first (a ∷ l) [] h = absurd (omega arith)
 placed-first (a ∷ l) (x ∷ out) h = placed-cons a out 0 l ∙ ap (λ (k : List ℕ). a ∷ k) (placed-first l out (omega arith))
 
+placed-length : (l out : List ℕ) (at : ℕ) → length (placed out at l) ≡ length out
+placed-length [] out at = refl
+placed-length (a ∷ l) out at = placed-length l (set out at a) (at + 1) ∙ length-set out at a
+
+-- ---- one request to {M, C}
+module _ (S : ℕ → Bool) (m c at : ℕ) (out : List ℕ) where
+  settles : {f : ℕ} {out₁ : List ℕ} → Walks S m c at out 1 f out₁ → Settled S m c at out true f out₁
+  settles w = record { yes = λ k. w; no = λ k. absurd (true≢false k) }
+
+  module _ (a : LineAnswer) (e : a ≡ answerTo (devices S m c)) where
+    pub settles-none : a ≡ Silence → Settled S m c at out true at out
+    settles-none k =
+        let l : devices S m c ≡ [] = none-there (devices S m c) (sym e ∙ k) in
+        let n : length (devices S m c) ≡ 0 = ap length l in
+        settles record { asked = sym (once S m c (omega arith)); read = omega arith; wrote = rw l refl }
+
+    pub room-one : (w : ℕ) → a ≡ Reply w → length (devices S m c) ≡ 1
+    room-one w k = ap length (one-there (devices S m c) w (sym e ∙ k) .1)
+
+    pub settles-one : (w : ℕ) → a ≡ Reply w → isGroup m c ≡ true → Settled S m c at out true (at + 1) (set out at (w % 4096))
+    settles-one w k g =
+        let o = one-there (devices S m c) w (sym e ∙ k) in
+        let n = room-one w k in
+        let x = o .0 in
+        let s = member S m c (group-is m c g) x (subst (λ (l : List ℕ). List·Memᴰ x l) (sym (o .1)) (List·Memᴰ·head refl)) .small in
+        let q : w ≡ 49152 + x = o .2 in
+        let v : w % 4096 ≡ x = omega arith in
+        settles record { asked = sym (once S m c (omega arith)); read = omega arith; wrote = rw (o .1, v) refl }
+
+    pub settles-not : a ≡ Collision → Settled S m c at out false at out
+    settles-not k = record { yes = λ n. absurd (false≢true n); no = λ n. (more-there (devices S m c) (sym e ∙ k), refl, refl) }
+
 -- ---- the search of {M, C}
--- what it promises: requests, places filled, the output
-abbrev pub Walks : (ℕ → Bool) → ℕ → ℕ → ℕ → List ℕ → ℕ → ℕ → List ℕ → Type 0
-Walks S m c at out requests filled out₁ =
-    ((requests ≡ searchOf S m c .requests) × (filled ≡ at + length (devices S m c))) × (out₁ ≡ placed out at (devices S m c))
+module _ {S : ℕ → Bool} {m c at : ℕ} {out : List ℕ} where
+  module _ {q f : ℕ} {out₁ : List ℕ} (w : Walks S m c at out q f out₁) where
+    pub walk-length : length out₁ ≡ length out
+    walk-length = ap length (w .wrote) ∙ placed-length (devices S m c) out at
 
-module _ (S : ℕ → Bool) (m c at : ℕ) (out : List ℕ) (a : LineAnswer) (e : a ≡ answerTo (devices S m c)) where
-  pub walk-none : a ≡ Silence → Walks S m c at out 1 at out
-  walk-none k =
-      let l : devices S m c ≡ [] = none-there (devices S m c) (sym e ∙ k) in
-      let n : length (devices S m c) ≡ 0 = ap length l in
-      ((sym (once S m c (omega arith)), omega arith), rw l refl)
+    pub requests-fit : isGroup m c ≡ true → q ≤ 8191
+    requests-fit g =
+        let t = group-is m c g .0 in
+        let p : 2 ^ suc m ≤ 8192 = pow-mono {j = 13} (omega arith) in
+        omega (arith, w .asked, requests-few S m c)
 
-  pub room-one : (w : ℕ) → a ≡ Reply w → length (devices S m c) ≡ 1
-  room-one w k = ap length (one-there (devices S m c) w (sym e ∙ k) .1)
+  -- one request; and where that does not settle it, the search of both halves
+  module _ {said : Bool} {f : ℕ} {out₁ : List ℕ} (s : Settled S m c at out said f out₁) where
+    pub room-still : said ≡ false → at + length (devices S m c) ≤ length out → (f + length (devices S m c) ≤ length out₁) × (2 ≤ length (devices S m c))
+    room-still k r = let n = s .no k in (rw (n .1, n .2) r, n .0)
 
-  pub walk-one : (w : ℕ) → a ≡ Reply w → isGroup m c ≡ true → Walks S m c at out 1 (at + 1) (set out at (w % 4096))
-  walk-one w k g =
-      let o = one-there (devices S m c) w (sym e ∙ k) in
-      let n = room-one w k in
-      let x = o .0 in
-      let s = member S m c (group-is m c g) x (subst (λ (l : List ℕ). List·Memᴰ x l) (sym (o .1)) (List·Memᴰ·head refl)) .small in
-      let q : w ≡ 49152 + x = o .2 in
-      let v : w % 4096 ≡ x = omega arith in
-      ((sym (once S m c (omega arith)), omega arith), rw (o .1, v) refl)
+    -- where the two ways have met
+    module _ {q₂ f₂ : ℕ} {out₂ : List ℕ} where
+      pub said-yes : said ≡ true → out₂ ≡ out₁ → f₂ ≡ f → q₂ ≡ 1 → Walks S m c at out q₂ f₂ out₂
+      said-yes k x y z = rw (x, y, z) (s .yes k)
 
-  module _ (k : a ≡ Collision) (g : isGroup m c ≡ true) where
-    -- a single device does not collide with itself
-    pub no-single : (n : ℕ) × (m ≡ suc n)
-    no-single = go m (more-there (devices S m c) (sym e ∙ k)) (devices-few S m c)
-      where
-        go : (i : ℕ) → 2 ≤ length (devices S m c) → length (devices S m c) ≤ 2 ^ i → (n : ℕ) × (i ≡ suc n)
-        go zero h l = absurd (omega arith)
-        go (suc n) h l = (n, refl)
+      pub said-no : {q₁ f₁ : ℕ} {out₃ : List ℕ} → said ≡ false → Walks S m c f out₁ q₁ f₁ out₃ → out₂ ≡ out₃ → f₂ ≡ f₁ → q₂ ≡ q₁ → Walks S m c at out q₂ f₂ out₂
+      said-no k w x y z = let n = s .no k in rw (x, y, z, sym (n .1), sym (n .2)) w
 
-    less : (n : ℕ) → m ≡ suc n → m - 1 ≡ n
-    less n q = omega arith
+-- ---- both halves of a group with two devices
+module _ (S : ℕ → Bool) (m c : ℕ) (g : isGroup m c ≡ true) (k : 2 ≤ length (devices S m c)) where
+  -- a single device does not collide with itself
+  pub no-single : (n : ℕ) × (m ≡ suc n)
+  no-single = go m (devices-few S m c)
+    where
+      go : (i : ℕ) → length (devices S m c) ≤ 2 ^ i → (n : ℕ) × (i ≡ suc n)
+      go zero l = absurd (omega arith)
+      go (suc n) l = (n, refl)
 
-    pub group-low : isGroup (m - 1) c ≡ true
-    group-low =
-        let n = no-single in
-        rw (less (n .0) (n .1)) (is-group (n .0) c (in-lower (n .0) c (subst (λ (i : ℕ). Group i c) (n .1) (group-is m c g))))
+  less : (n : ℕ) → m ≡ suc n → m - 1 ≡ n
+  less n q = omega arith
 
-    pub group-high : (h : ℕ) → h ≡ 2 ^ (12 - m) → isGroup (m - 1) (c + h) ≡ true
-    group-high h p =
+  pub group-low : isGroup (m - 1) c ≡ true
+  group-low =
+      let n = no-single in
+      rw (less (n .0) (n .1)) (is-group (n .0) c (in-lower (n .0) c (subst (λ (i : ℕ). Group i c) (n .1) (group-is m c g))))
+
+  module _ {h : ℕ} (p : h ≡ 2 ^ (12 - m)) where
+    pub group-high : isGroup (m - 1) (c + h) ≡ true
+    group-high =
         let n = no-single in
         let q : h ≡ 2 ^ (12 - suc (n .0)) = subst (λ (i : ℕ). h ≡ 2 ^ (12 - i)) (n .1) p in
         rw (less (n .0) (n .1), q) (is-group (n .0) _ (in-upper (n .0) c (subst (λ (i : ℕ). Group i c) (n .1) (group-is m c g))))
 
     -- its devices and its requests are those of both halves
-    module _ (h : ℕ) (p : h ≡ 2 ^ (12 - m)) where
-      split : (devices S m c ≡ devices S (m - 1) c ++ devices S (m - 1) (c + h)) × (searchOf S m c .requests ≡ 1 + (searchOf S (m - 1) c .requests + searchOf S (m - 1) (c + h) .requests))
-      split =
-          let n = no-single in
-          let l = more-there (devices S m c) (sym e ∙ k) in
-          let q : h ≡ 2 ^ (12 - suc (n .0)) = subst (λ (i : ℕ). h ≡ 2 ^ (12 - i)) (n .1) p in
-          let l₂ : 2 ≤ length (devices S (suc (n .0)) c) = subst (λ (i : ℕ). 2 ≤ length (devices S i c)) (n .1) l in
-          rw (less (n .0) (n .1), q)
-          (subst (λ (i : ℕ). (devices S i c ≡ devices S (n .0) c ++ devices S (n .0) (c + 2 ^ (12 - suc (n .0)))) × (searchOf S i c .requests ≡ 1 + (searchOf S (n .0) c .requests + searchOf S (n .0) (c + 2 ^ (12 - suc (n .0))) .requests)))
-          (sym (n .1)) (halved S (n .0) c, collided S (n .0) c l₂))
+    split : (devices S m c ≡ devices S (m - 1) c ++ devices S (m - 1) (c + h)) × (searchOf S m c .requests ≡ 1 + (searchOf S (m - 1) c .requests + searchOf S (m - 1) (c + h) .requests))
+    split =
+        let n = no-single in
+        let q : h ≡ 2 ^ (12 - suc (n .0)) = subst (λ (i : ℕ). h ≡ 2 ^ (12 - i)) (n .1) p in
+        let l₂ : 2 ≤ length (devices S (suc (n .0)) c) = subst (λ (i : ℕ). 2 ≤ length (devices S i c)) (n .1) k in
+        rw (less (n .0) (n .1), q)
+        (subst (λ (i : ℕ). (devices S i c ≡ devices S (n .0) c ++ devices S (n .0) (c + 2 ^ (12 - suc (n .0)))) × (searchOf S i c .requests ≡ 1 + (searchOf S (n .0) c .requests + searchOf S (n .0) (c + 2 ^ (12 - suc (n .0))) .requests)))
+        (sym (n .1)) (halved S (n .0) c, collided S (n .0) c l₂))
 
-      lengths : length (devices S m c) ≡ length (devices S (m - 1) c) + length (devices S (m - 1) (c + h))
-      lengths = ap length (split .0) ∙ length-append (devices S (m - 1) c) (devices S (m - 1) (c + h))
+    lengths : length (devices S m c) ≡ length (devices S (m - 1) c) + length (devices S (m - 1) (c + h))
+    lengths = ap length (split .0) ∙ length-append (devices S (m - 1) c) (devices S (m - 1) (c + h))
 
-      pub room-high : (filled : ℕ) (out₁ : List ℕ) → filled ≡ at + length (devices S (m - 1) c) → length out₁ ≡ length out → at + length (devices S m c) ≤ length out → filled + length (devices S (m - 1) (c + h)) ≤ length out₁
-      room-high filled out₁ x y r = let l = lengths in omega arith
+    -- the lower half searched, and then the upper
+    module _ {at : ℕ} {out : List ℕ} {q₁ f₁ : ℕ} {out₁ : List ℕ} (x : Walks S (m - 1) c at out q₁ f₁ out₁) where
+      pub room-high : at + length (devices S m c) ≤ length out → f₁ + length (devices S (m - 1) (c + h)) ≤ length out₁
+      room-high r = omega (arith, lengths, x .read, walk-length x)
 
-      pub walk-both : (q₁ q₂ f₁ f₂ : ℕ) (out₁ out₂ : List ℕ) → Walks S (m - 1) c at out q₁ f₁ out₁ → Walks S (m - 1) (c + h) f₁ out₁ q₂ f₂ out₂ →
-          Walks S m c at out (1 + (q₁ + q₂)) f₂ out₂
-      walk-both q₁ q₂ f₁ f₂ out₁ out₂ x y =
-          let l = lengths in
-          let b = split .1 in
-          let x₁ = x .0 .0 in
-          let x₂ = x .0 .1 in
-          let y₁ = y .0 .0 in
-          let y₂ = y .0 .1 in (
-            (omega arith, omega arith),
-            y .1 ∙ rw (x .1, x₂) (sym (placed-append out at (devices S (m - 1) c) (devices S (m - 1) (c + h)))) ∙ ap (placed out at) (sym (split .0)),
-          )
+      pub walk-both : {q₂ f₂ : ℕ} {out₂ : List ℕ} → Walks S (m - 1) (c + h) f₁ out₁ q₂ f₂ out₂ → Walks S m c at out (1 + (q₁ + q₂)) f₂ out₂
+      walk-both y =
+          record {
+            asked = omega (arith, split .1, x .asked, y .asked);
+            read = omega (arith, lengths, x .read, y .read);
+            wrote = y .wrote ∙ rw (x .wrote, x .read) (sym (placed-append out at (devices S (m - 1) c) (devices S (m - 1) (c + h)))) ∙ ap (placed out at) (sym (split .0));
+          }
 
-      pub requests-fit : (q₁ q₂ : ℕ) → q₁ ≡ searchOf S (m - 1) c .requests → q₂ ≡ searchOf S (m - 1) (c + h) .requests → 1 + (q₁ + q₂) ≤ 8191
-      requests-fit q₁ q₂ x y =
-          let b = split .1 in
-          let t = group-is m c g .0 in
-          let w : 2 ^ suc m ≤ 8192 = pow-mono {j = 13} (omega arith) in
-          omega (arith, requests-few S m c)
-
-    pub room-low : at + length (devices S m c) ≤ length out → at + length (devices S (m - 1) c) ≤ length out
-    room-low r = let l = lengths (2 ^ (12 - m)) refl in omega arith
+  pub room-low : (at n : ℕ) → at + length (devices S m c) ≤ n → at + length (devices S (m - 1) c) ≤ n
+  room-low at n r = omega (arith, lengths {h = 2 ^ (12 - m)} refl)
 
 -- ---- the search of the set
+pub reads-fit : {S : ℕ → Bool} {out : List ℕ} {q f : ℕ} {out₁ : List ℕ} → Walks S 12 0 0 out q f out₁ → f ≤ 4096
+reads-fit {S} w = omega (arith, w .read, devices-few S 12 0)
+
 module _ (bytes out : List ℕ) where
   abbrev S₀ : ℕ → Bool
   S₀ = inSet bytes
@@ -205,13 +229,13 @@ module _ (bytes out : List ℕ) where
       room-there : length (devices S₀ 12 0) ≤ length out
       room-there = omega (arith, set-count S₀)
 
-      walk-done : (q f : ℕ) (out₁ : List ℕ) → Walks S₀ 12 0 0 out q f out₁ → Answers (gives (q ∷ f ∷ [])) out₁
+      walk-done : {q f : ℕ} {out₁ : List ℕ} → Walks S₀ 12 0 0 out q f out₁ → Answers (gives (q ∷ f ∷ [])) out₁
       unfolding searched written
-      walk-done q f out₁ w =
+      walk-done {q} {f} w =
           let o = finds S₀ 12 0 in
-          let n : f ≡ length (devices S₀ 12 0) = let k = w .0 .1 in omega arith in (
-            simp (eq-eqb _ _ h, le-ltb _ _ l) (rw (w .0 .0, o, n) refl),
-            simp (eq-eqb _ _ h, le-ltb _ _ l) (rw o (w .1 ∙ placed-first (devices S₀ 12 0) out room-there)),
+          let n : f ≡ length (devices S₀ 12 0) = omega (arith, w .read) in (
+            simp (eq-eqb _ _ h, le-ltb _ _ l) (rw (w .asked, o, n) refl),
+            simp (eq-eqb _ _ h, le-ltb _ _ l) (rw o (w .wrote ∙ placed-first (devices S₀ 12 0) out room-there)),
           )
 
       -- the search of the bytes that were marked
@@ -219,14 +243,10 @@ module _ (bytes out : List ℕ) where
         pub set-room : 0 + length (devices (inSet marked) 12 0) ≤ length out
         set-room = subst (λ (k : List ℕ). 0 + length (devices (inSet k) 12 0) ≤ length out) (sym e) (omega (arith, room-there))
 
-        module _ (q f : ℕ) (out₁ : List ℕ) (w : Walks (inSet marked) 12 0 0 out q f out₁) where
-          pub set-done : Answers (gives (q ∷ f ∷ [])) out₁
-          set-done = walk-done q f out₁ (subst (λ (k : List ℕ). Walks (inSet k) 12 0 0 out q f out₁) e w)
-
-          pub reads-fit : f ≤ 4096
-          reads-fit = let k = w .0 .1 in omega (arith, devices-few (inSet marked) 12 0)
+        pub set-done : {q f : ℕ} {out₁ : List ℕ} → Walks (inSet marked) 12 0 0 out q f out₁ → Answers (gives (q ∷ f ∷ [])) out₁
+        set-done {q} {f} {out₁} w = walk-done (subst (λ (k : List ℕ). Walks (inSet k) 12 0 0 out q f out₁) e w)
 
     pub set-empty : howMany S₀ 4096 ≡ 0 → Answers (gives (1 ∷ 0 ∷ [])) out
     set-empty z =
         let n : length (devices S₀ 12 0) ≡ 0 = set-count S₀ ∙ z in
-        walk-done (omega arith) 1 0 out ((sym (once S₀ 12 0 (omega arith)), omega arith), rw (none-in (devices S₀ 12 0) n) refl)
+        walk-done (omega arith) record { asked = sym (once S₀ 12 0 (omega arith)); read = omega arith; wrote = rw (none-in (devices S₀ 12 0) n) refl }

@@ -2,7 +2,7 @@
 -- Assumes nothing.
 use Prim.Native.Nat.{ℕ, _+_, _-_, _/_, _%_, _^_, _≤_, _<_}
 use mathlib.Core.Path.{_≡_}
-use mathlib.Core.Bool.{Bool, true}
+use mathlib.Core.Bool.{Bool, true, false}
 use mathlib.Core.List.{List, [], _∷_}
 use lib.Dec.{leb, eqb}
 use lib.ListN.{length, drop, set}
@@ -11,6 +11,7 @@ use Rattle.frames.specs.declared.LineAnswer.the-variants.{Silence, Reply, Colli
 use Rattle.frames.specs.Words.{wordOf}
 use Rattle.groups.specs.Groups.{isGroup}
 use Rattle.groups.specs.Sets.{devices}
+use Rattle.groups.specs.Search.{searchOf}
 use Rattle.search.specs.Searches.{inSet}
 
 -- what these devices answer to one request
@@ -65,3 +66,14 @@ pub record Packed (four two one byte : ℕ) : Type 0 where
 abbrev pub placed : List ℕ → ℕ → List ℕ → List ℕ
 placed out at [] = out
 placed out at (a ∷ l) = placed (set out at a) (at + 1) l
+
+-- the search of {M, C}: so many requests, so many places filled, so the output
+pub record Walks (S : ℕ → Bool) (m c at : ℕ) (out : List ℕ) (requests filled : ℕ) (out₁ : List ℕ) : Type 0 where
+  pub asked : requests ≡ searchOf S m c .requests
+  pub read : filled ≡ at + length (devices S m c)
+  pub wrote : out₁ ≡ placed out at (devices S m c)
+
+-- one request to {M, C}, and whether it was said to settle it: yes, and it is the whole search; no, and there are two devices and all is as it was
+pub record Settled (S : ℕ → Bool) (m c at : ℕ) (out : List ℕ) (said : Bool) (filled : ℕ) (out₁ : List ℕ) : Type 0 where
+  pub yes : said ≡ true → Walks S m c at out 1 filled out₁
+  pub no : said ≡ false → (2 ≤ length (devices S m c)) × (filled ≡ at) × (out₁ ≡ out)

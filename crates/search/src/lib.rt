@@ -9,9 +9,8 @@ ghost use lib.Dec.{leb};
 ghost use lib.ListN.{length, drop};
 ghost use Rattle.groups.specs.Groups.{isGroup};
 ghost use Rattle.groups.specs.Sets.{devices as devicesOf, howMany};
-ghost use Rattle.groups.specs.Search.{searchOf};
 ghost use Rattle.search.specs.Searches.{inSet, searched, written};
-ghost use Rattle.search.specs.Inside.{answerTo, bitsOf, One, Marked, hasEvent, Width, Packed, placed};
+ghost use Rattle.search.specs.Inside.{answerTo, bitsOf, One, Marked, hasEvent, Width, Packed, Walks, Settled};
 ghost use Rattle.search.specs.Told.{told};
 
 // Requests and reads; or a refusal.
@@ -38,7 +37,11 @@ pub fn search_set(set: &[u8], out: &mut [u16]) -> Searched
     let mut two = [0u8; 512];
     mark(set, &mut any, &mut two);
     let mut reads = 0;
-    let requests = walk(&any, &two, out, &mut reads, 12, 0);
+    let requests = if settled(&any, &two, out, &mut reads, 12, 0) {
+        1
+    } else {
+        walk(&any, &two, out, &mut reads, 12, 0)
+    };
     Searched::Done(requests, reads as u16)
 }
 
@@ -179,7 +182,8 @@ fn packed(four: u8, two: u8, one: u8) -> u8
     16 * (four % 16) + 4 * (two % 4) + 2 * (one % 2)
 }
 
-// Asks the group {m, c}, and on a collision both halves; writes what it reads from place `at` on. Answers how many requests it made.
+// The group {m, c} answered with a collision: asks both halves. Writes what it reads from place `at` on. Answers how many requests that
+// took, its own among them.
 fn walk(
     any: &[u8; 1024],
     two: &[u8; 512],
@@ -188,24 +192,45 @@ fn walk(
     m: usize,
     c: usize,
 ) -> u16
+    requires { ⌜ Marked (drop 512 (now any)) (now any) (now two) 1 × (isGroup m c ≡ true) × (now at + length (devicesOf (hasEvent (now any)) m c) ≤ length (now out)) × (2 ≤ length (devicesOf (hasEvent (now any)) m c)) ⌝ }
+    ensures { λ r. ⌜ Walks (hasEvent (now (any .entry))) m c (now (at .entry)) (now (out .entry)) r (now (at .exit)) (now (out .exit)) ⌝ }
+{
+    let low = if settled(any, two, out, at, m - 1, c) {
+        1
+    } else {
+        walk(any, two, out, at, m - 1, c)
+    };
+    let upper = c + first_mark(m);
+    let high = if settled(any, two, out, at, m - 1, upper) {
+        1
+    } else {
+        walk(any, two, out, at, m - 1, upper)
+    };
+    1 + (low + high)
+}
+
+// Asks the group {m, c}: whether that settles it. A device that replies is written at place `at`; a collision leaves all as it was.
+fn settled(
+    any: &[u8; 1024],
+    two: &[u8; 512],
+    out: &mut [u16],
+    at: &mut usize,
+    m: usize,
+    c: usize,
+) -> bool
     requires { ⌜ Marked (drop 512 (now any)) (now any) (now two) 1 × (isGroup m c ≡ true) × (now at + length (devicesOf (hasEvent (now any)) m c) ≤ length (now out)) ⌝ }
-    ensures counts { λ r. ⌜ (r ≡ searchOf (hasEvent (now (any .entry))) m c .requests) × (now (at .exit) ≡ now (at .entry) + length (devicesOf (hasEvent (now (any .entry))) m c)) ⌝ }
-    ensures output { λ r. ⌜ now (out .exit) ≡ placed (now (out .entry)) (now (at .entry)) (devicesOf (hasEvent (now (any .entry))) m c) ⌝ }
+    ensures { λ r. ⌜ Settled (hasEvent (now (any .entry))) m c (now (at .entry)) (now (out .entry)) r (now (at .exit)) (now (out .exit)) ⌝ }
 {
     let answer = ask(any, two, m, c);
     match answer {
-        LineAnswer::Silence => 1,
+        LineAnswer::Silence => true,
         LineAnswer::Reply(word) => {
             let i = *at;
             out[i] = word % 4096;
             *at = i + 1;
-            1
+            true
         }
-        LineAnswer::Collision => {
-            let low = walk(any, two, out, at, m - 1, c);
-            let high = walk(any, two, out, at, m - 1, c + first_mark(m));
-            1 + (low + high)
-        }
+        LineAnswer::Collision => false,
     }
 }
 

@@ -1,21 +1,25 @@
--- `search::walk` meets its contract: silence, a reply, a collision and both halves; M falls at each call.
+-- `search::walk` meets its contract: the lower half, settled or walked, then the upper; M falls at each call.
 -- Assumes nothing.
-use mathlib.Core.Path.{_∙_}
-use Prim.Native.Nat.{ℕ, _<_, _-_}
+use mathlib.Core.Bool.{Bool, true}
+use mathlib.Core.Path.{_≡_}
+use mathlib.Core.Logic.{⊎-elim}
+use Prim.Native.Nat.{ℕ, _+_, _-_, _≤_, _<_}
 use native.Mathlib.Omega.{arith}
-use borrow.Author.Needs.{needs}
 use borrow.Fn.Kinds.{In}
 use borrow.Fn.PlainCycle.{Measures, is, falls, and}
-use lib.ListN.{drop, length-set}
+use lib.ListN.{length, drop}
+use Rattle.groups.specs.Groups.{isGroup}
+use Rattle.groups.specs.Sets.{devices}
 use Rattle.groups.proofs.Follow.{group-is, c-small}
 use Rattle.groups.proofs.Powers.{at-most}
 use Rattle.search.specs.Searches.{inSet}
-use Rattle.search.proofs.Walking.{room-one, no-single, group-low, group-high, room-low, room-high, requests-fit, walk-none, walk-one, walk-both}
+use Rattle.search.specs.Inside.{Walks}
+use Rattle.search.proofs.Walking.{walk-length, said-yes, said-no, room-still, no-single, group-low, group-high, room-low, room-high, requests-fit, walk-both}
 use Rattle.search.proofs.walk.Reads as walk
 use Rattle.search.proofs.walk.Kinds as walk-kinds
 use Rattle.search.proofs.+walk.Lts-walk as walk-lts
 use Rattle.search.proofs.first_mark.Reads as first-mark-reads
-use Rattle.search.proofs.ask.Reads as ask-reads
+use Rattle.search.proofs.settled.Reads as settled-reads
 use Rattle.search.proofs.+walk.{statement}
 use Rattle.search.proofs.+walk.Tie.{close}
 
@@ -28,123 +32,111 @@ walk-at t = and 4 walk-kinds.ps (is 4 walk-kinds.ps μ-walk t) walk.Pre
 abbrev walk-below : ℕ → In 4 walk-kinds.ps
 walk-below t = and 4 walk-kinds.ps (falls 4 walk-kinds.ps _<_ μ-walk t) walk.Pre
 
+abbrev claims : ℕ → walk-lts.Claims
+claims t = (settled-reads.Asked, settled-reads.Learnt, walk-below t, walk.Post, first-mark-reads.Asked, first-mark-reads.Learnt)
+
+module _ (t : ℕ) where
+  abbrev Start : Type 0
+  Start = walk-lts.Start (claims t) (walk-at t) walk.Post
+
+  -- ---- of the group that collided
+  module _ (b : Start) where
+    abbrev S : ℕ → Bool
+    S = inSet (drop 512 (b .args .any .now))
+
+    halves : 1 ≤ b .args .m
+    halves = omega (arith, no-single S (b .args .m) (b .args .c) (b .pre .1 .1) (b .pre .1 .3) .1)
+
+    low-group : isGroup (b .args .m - 1) (b .args .c) ≡ true
+    low-group = group-low S (b .args .m) (b .args .c) (b .pre .1 .1) (b .pre .1 .3)
+
+    low-room : b .args .at .now + length (devices S (b .args .m - 1) (b .args .c)) ≤ length (b .args .out .now)
+    low-room = room-low S (b .args .m) (b .args .c) (b .pre .1 .1) (b .pre .1 .3) _ _ (b .pre .1 .2)
+
+  -- ---- the lower half, where its ways have met
+  module _ (j : walk-lts.Joined1 (claims t) (walk-at t) walk.Post) where
+    abbrev start : Start
+    start = j .before .before .before .before .before .before .before
+
+    abbrev Low : Type 0
+    Low = Walks (S start) (start .args .m - 1) (start .args .c) (start .args .at .now) (start .args .out .now) (j .if1 .low) (j .if1 .at) (j .if1 .out)
+
+    low : Low
+    low =
+        let s = j .before .before .before .settled in
+        ⊎-elim
+        {C = Low}
+        (λ w. said-yes (s .ensures) (w .0 .taken) (w .1) (w .2) (w .3))
+        (λ w. said-no (s .ensures) (w .0 .left) (w .3 .ensures) (w .6) (w .7) (w .8))
+        (j .if1 .came)
+
+  -- ---- the upper half
+  module _ (f : walk-lts.After-first-mark (claims t) (walk-at t) walk.Post) where
+    abbrev begun : Start
+    begun = start (f .before)
+
+    abbrev upper : ℕ
+    upper = begun .args .c + f .first-mark .result
+
+    upper-fits : upper < 8192
+    upper-fits =
+        let a = begun .args in
+        let g = group-is (a .m) (a .c) (begun .pre .1 .1) in
+        omega (arith, f .first-mark .ensures, c-small (a .m) (a .c) (g .1), at-most (12 - a .m) (omega arith))
+
+    high-group : isGroup (begun .args .m - 1) upper ≡ true
+    high-group = group-high (S begun) (begun .args .m) (begun .args .c) (begun .pre .1 .1) (begun .pre .1 .3) (f .first-mark .ensures)
+
+    high-room : f .before .if1 .at + length (devices (S begun) (begun .args .m - 1) upper) ≤ length (f .before .if1 .out)
+    high-room = room-high (S begun) (begun .args .m) (begun .args .c) (begun .pre .1 .1) (begun .pre .1 .3) (f .first-mark .ensures) (low (f .before)) (begun .pre .1 .2)
+
+  -- ---- both, where the ways of the upper half have met
+  module _ (j : walk-lts.Joined2 (claims t) (walk-at t) walk.Post) where
+    abbrev mark : walk-lts.After-first-mark (claims t) (walk-at t) walk.Post
+    mark = j .before .before .before .before .before .before
+
+    abbrev High : Type 0
+    High = Walks (S (begun mark)) (begun mark .args .m - 1) (upper mark) (mark .before .if1 .at) (mark .before .if1 .out) (j .if2 .high) (j .if2 .at) (j .if2 .out)
+
+    high : High
+    high =
+        let s = j .before .before .before .settled2 in
+        ⊎-elim
+        {C = High}
+        (λ w. said-yes (s .ensures) (w .0 .taken) (w .1) (w .2) (w .3))
+        (λ w. said-no (s .ensures) (w .0 .left) (w .3 .ensures) (w .6) (w .7) (w .8))
+        (j .if2 .came)
+
+    both : Walks (S (begun mark)) (begun mark .args .m) (begun mark .args .c) (begun mark .args .at .now) (begun mark .args .out .now) (1 + (mark .before .if1 .low + j .if2 .high)) (j .if2 .at) (j .if2 .out)
+    both = walk-both (S (begun mark)) (begun mark .args .m) (begun mark .args .c) (begun mark .pre .1 .1) (begun mark .pre .1 .3) (mark .first-mark .ensures) (low (mark .before)) high
+
+    both-fit : 1 + (mark .before .if1 .low + j .if2 .high) ≤ 8191
+    both-fit = requests-fit both (begun mark .pre .1 .1)
+
 pub +walk-spec : {M : Type 1} → statement M
-+walk-spec = close μ-walk λ t. walk-lts.spec (
-  ask-reads.Asked,
-  ask-reads.Learnt,
-  walk-below t,
-  walk.Post,
-  first-mark-reads.Asked,
-  first-mark-reads.Learnt,
-)
++walk-spec = close μ-walk λ t. walk-lts.spec (claims t)
     (walk-at t)
     walk.Post
-    (λ c κs. let b = c .before in (b .pre .1 .0, b .pre .1 .1))
-    (λ c. search needs)
-    (λ c. search needs)
-    (λ c.
-    let b = c .before .before .before .before .before .before in
-    let k = c .before .before .before .before .ask in
-    let w = c .before .before .answer .given in
-    omega (arith, room-one (inSet (drop 512 (b .args .any .now))) (b .args .m) (b .args .c) (b .args .at .now) (b .args .out .now) (k .result) (k .ensures) (w .0 .0) (w .1), b .pre .1 .2, b .good .1 .1 .0 .1))
-    (λ c.
-    let b = c .before .before .before .before .before .before in
-    let k = c .before .before .before .before .ask in
-    let w = c .before .before .answer .given in
-    omega (arith, room-one (inSet (drop 512 (b .args .any .now))) (b .args .m) (b .args .c) (b .args .at .now) (b .args .out .now) (k .result) (k .ensures) (w .0 .0) (w .1), b .pre .1 .2))
-    (λ c.
-    let b = c .before .before .before .before .before .before in
-    let k = c .before .before .before .before .ask in
-    let w = c .before .before .answer .given in
-    omega (arith, room-one (inSet (drop 512 (b .args .any .now))) (b .args .m) (b .args .c) (b .args .at .now) (b .args .out .now) (k .result) (k .ensures) (w .0 .0) (w .1), b .pre .1 .2, b .good .1 .1 .0 .0))
-    (λ c. search needs)
-    (λ c.
-    let e = c .before .before in
-    let k = e .before .before .ask in
-    let b = e .before .before .before .before in
-    omega (arith, no-single (inSet (drop 512 (b .args .any .now))) (b .args .m) (b .args .c) (b .args .at .now) (b .args .out .now) (k .result) (k .ensures) (e .enum-told2 .given .1) (b .pre .1 .1) .1))
+    (λ c. halves t (c .before .before .before))
+    (λ c κs. let b = c .before .before .before in (b .pre .1 .0, low-group t b, low-room t b))
+    (λ c. halves t (c .before .before .before .before .before .before .before .before .before))
     (λ c κs.
-    let e = c .before .before in
-    let k = e .before .before .ask in
-    let b = e .before .before .before .before in
-    let S = inSet (drop 512 (b .args .any .now)) in
-    let n = no-single S (b .args .m) (b .args .c) (b .args .at .now) (b .args .out .now) (k .result) (k .ensures) (e .enum-told2 .given .1) (b .pre .1 .1) in (
-      omega (arith, b .pre .0, n .1),
-      (
-        b .pre .1 .0,
-        group-low S (b .args .m) (b .args .c) (b .args .at .now) (b .args .out .now) (k .result) (k .ensures) (e .enum-told2 .given .1) (b .pre .1 .1),
-        room-low S (b .args .m) (b .args .c) (b .args .at .now) (b .args .out .now) (k .result) (k .ensures) (e .enum-told2 .given .1) (b .pre .1 .1) (b .pre .1 .2),
-      ),
-    ))
-    (λ c.
-    let e = c .before .before .before .before .before .before .before in
-    let k = e .before .before .ask in
-    let b = e .before .before .before .before in
-    omega (arith, no-single (inSet (drop 512 (b .args .any .now))) (b .args .m) (b .args .c) (b .args .at .now) (b .args .out .now) (k .result) (k .ensures) (e .enum-told2 .given .1) (b .pre .1 .1) .1))
-    (λ c κs. let b = c .before .before .before .before .before .before .before .before .before .before .before in group-is (b .args .m) (b .args .c) (b .pre .1 .1) .0)
-    (λ c.
-    let e = c .before .before .before .before .before .before .before .before in
-    let b = e .before .before .before .before in
-    let g = group-is (b .args .m) (b .args .c) (b .pre .1 .1) in
-    omega (arith, c .first-mark .ensures, c-small (b .args .m) (b .args .c) (g .1), at-most (12 - b .args .m) (omega arith)))
+    let s = c .before .before .before .before .before in
+    let b = s .before .before .before .before in
+    let r = room-still (s .settled .ensures) (c .before .before .if1 .left) (low-room t b) in
+    (omega (arith, b .pre .0, halves t b), (b .pre .1 .0, low-group t b, r .0, r .1)))
+    (λ c κs. let b = start t c in group-is (b .args .m) (b .args .c) (b .pre .1 .1) .0)
+    (λ c. omega (arith, upper-fits t c))
+    (λ c. halves t (begun t (c .before .before)))
+    (λ c κs. let f = c .before .before in (begun t f .pre .1 .0, high-group t f, high-room t f))
+    (λ c. halves t (begun t (c .before .before .before .before .before .before .before .before)))
     (λ c κs.
-    let l = c .before .before .before .before .before .walk in
-    let e = c .before .before .before .before .before .before .before .before in
-    let k = e .before .before .ask in
-    let b = e .before .before .before .before in
-    let S = inSet (drop 512 (b .args .any .now)) in
-    let n = no-single S (b .args .m) (b .args .c) (b .args .at .now) (b .args .out .now) (k .result) (k .ensures) (e .enum-told2 .given .1) (b .pre .1 .1) in (
-      omega (arith, b .pre .0, n .1),
-      (
-        b .pre .1 .0,
-        group-high S (b .args .m) (b .args .c) (b .args .at .now) (b .args .out .now) (k .result) (k .ensures) (e .enum-told2 .given .1) (b .pre .1 .1) (c .first-mark .result) (c .first-mark .ensures),
-        room-high S (b .args .m) (b .args .c) (b .args .at .now) (b .args .out .now) (k .result) (k .ensures) (e .enum-told2 .given .1) (b .pre .1 .1) (c .first-mark .result) (c .first-mark .ensures)
-            (l .last .1 .1 .1 .0) (l .last .1 .1 .0) (l .ensures .0 .1) (l .kept .1 .1 .0) (b .pre .1 .2),
-      ),
-    ))
-    (λ c.
-    let h = c .before .before .walk2 in
-    let p = c .before .before .before in
-    let l = p .before .before .before .before .before .walk in
-    let e = p .before .before .before .before .before .before .before .before in
-    let k = e .before .before .ask in
-    let b = e .before .before .before .before in
-    omega (
-      arith,
-      requests-fit (inSet (drop 512 (b .args .any .now))) (b .args .m) (b .args .c) (b .args .at .now) (b .args .out .now) (k .result) (k .ensures) (e .enum-told2 .given .1) (b .pre .1 .1)
-          (p .first-mark .result) (p .first-mark .ensures) (l .result) (h .result) (l .ensures .0 .0) (h .ensures .0 .0),
-    ))
-    (λ c.
-    let h = c .before .before .walk2 in
-    let p = c .before .before .before in
-    let l = p .before .before .before .before .before .walk in
-    let e = p .before .before .before .before .before .before .before .before in
-    let k = e .before .before .ask in
-    let b = e .before .before .before .before in
-    omega (
-      arith,
-      requests-fit (inSet (drop 512 (b .args .any .now))) (b .args .m) (b .args .c) (b .args .at .now) (b .args .out .now) (k .result) (k .ensures) (e .enum-told2 .given .1) (b .pre .1 .1)
-          (p .first-mark .result) (p .first-mark .ensures) (l .result) (h .result) (l .ensures .0 .0) (h .ensures .0 .0),
-    ))
-    (λ c.
-    let b = c .before .before .before .before in
-    let k = c .before .before .ask in
-    walk-none (inSet (drop 512 (b .args .any .now))) (b .args .m) (b .args .c) (b .args .at .now) (b .args .out .now) (k .result) (k .ensures) (c .enum-told .given .1))
-    (λ c. simp length-set)
-    (λ c.
-    let b = c .before .before .before .before .before .before in
-    let k = c .before .before .before .before .ask in
-    let w = c .before .before .answer .given in
-    walk-one (inSet (drop 512 (b .args .any .now))) (b .args .m) (b .args .c) (b .args .at .now) (b .args .out .now) (k .result) (k .ensures) (w .0 .0) (w .1) (b .pre .1 .1))
-    (λ c.
-    let p = c .before .before in
-    p .walk2 .kept .1 .1 .0 ∙ p .before .before .before .before .before .before .walk .kept .1 .1 .0)
-    (λ c.
-    let h = c .before .before .walk2 in
-    let p = c .before .before .before in
-    let l = p .before .before .before .before .before .walk in
-    let e = p .before .before .before .before .before .before .before .before in
-    let k = e .before .before .ask in
-    let b = e .before .before .before .before in
-    walk-both (inSet (drop 512 (b .args .any .now))) (b .args .m) (b .args .c) (b .args .at .now) (b .args .out .now) (k .result) (k .ensures) (e .enum-told2 .given .1) (b .pre .1 .1)
-    (p .first-mark .result) (p .first-mark .ensures) (l .result) (h .result) (l .last .1 .1 .1 .0) (h .last .1 .1 .1 .0) (l .last .1 .1 .0) (h .last .1 .1 .0) (l .ensures) (h .ensures))
+    let s = c .before .before .before .before .before in
+    let f = s .before .before .before in
+    let b = begun t f in
+    let r = room-still (s .settled2 .ensures) (c .before .before .if2 .left) (high-room t f) in
+    (omega (arith, b .pre .0, halves t b), (b .pre .1 .0, high-group t f, r .0, r .1)))
+    (λ c. omega (arith, both-fit t (c .before .before)))
+    (λ c. omega (arith, both-fit t (c .before .before)))
+    (λ c. walk-length (both t (c .before .before)))
+    (λ c. both t (c .before .before))

@@ -1,15 +1,18 @@
 -- `search::search_set` meets its contract: 1, then an empty set, then 4, then the search.
 -- Assumes nothing.
-use mathlib.Core.Path.{refl, sym, _∙_}
-use Prim.Native.Nat.{_≤_}
+use mathlib.Core.Path.{_≡_, refl, sym, _∙_}
+use mathlib.Core.List.{List}
+use mathlib.Core.Logic.{⊎-elim}
+use Prim.Native.Nat.{ℕ, _+_, _≤_}
 use native.Mathlib.Omega.{arith}
 use borrow.Author.Needs.{needs}
 use borrow.Author.Tests.{not-true, not-false, leb-true, leb-false}
 use lib.ListN.{length, drop}
-use Rattle.groups.specs.Sets.{howMany}
+use Rattle.groups.specs.Sets.{devices, howMany}
 use Rattle.search.specs.Searches.{inSet}
+use Rattle.search.specs.Inside.{Marked, Walks}
 use Rattle.search.proofs.Marks.{own}
-use Rattle.search.proofs.Walking.{set-wrong, set-empty, set-short, set-room, set-done, reads-fit}
+use Rattle.search.proofs.Walking.{walk-length, room-still, said-yes, said-no, set-wrong, set-empty, set-short, set-room, set-done, reads-fit}
 use Rattle.search.proofs.search_set.Statement.{statement}
 use Rattle.search.proofs.search_set.Tie as tie
 
@@ -30,28 +33,52 @@ returns-3 c =
     let b = c .before .before .before .before .before .before .before in
     set-short (b .args .set .now) (b .args .out .now) (c .before .before .before .before .if1 .left) (leb-false _ _ (sym (c .before .has-room .ensures) ∙ not-true _ (c .if3 .taken)))
 
+-- the set as it was marked
+module _ (k : tie.After-mark) where
+  abbrev start : tie.Start
+  start = k .before .before .before .before .before .before .before .before .before .before
+
+  abbrev bytes : List ℕ
+  bytes = drop 512 (k .mark .last .1 .0)
+
+  marked : Marked bytes (k .mark .last .1 .0) (k .mark .last .1 .1 .0) 1
+  marked = own (start .args .set .now) (k .mark .last .1 .0) (k .mark .last .1 .1 .0) 1 (k .mark .ensures)
+
+  long : length (start .args .set .now) ≡ 512
+  long = k .before .before .before .before .before .before .before .if1 .left
+
+  there : 0 + length (devices (inSet bytes) 12 0) ≤ length (start .args .out .now)
+  there = set-room (start .args .set .now) (start .args .out .now) long (room (k .before .before .before)) bytes (k .mark .ensures .whole)
+
+-- its search, where the ways have met
+module _ (j : tie.Joined4) where
+  abbrev after-mark : tie.After-mark
+  after-mark = j .before .before .before .before .before .before .before .before
+
+  abbrev Found : Type 0
+  Found = Walks (inSet (bytes after-mark)) 12 0 0 (start after-mark .args .out .now) (j .if4 .requests) (j .if4 .reads) (j .if4 .out)
+
+  found : Found
+  found =
+      let s = j .before .before .before .settled in
+      ⊎-elim
+      {C = Found}
+      (λ w. said-yes (s .ensures) (w .0 .taken) (w .1) (w .2) (w .3))
+      (λ w. said-no (s .ensures) (w .0 .left) (w .5 .ensures) (w .8) (w .9) (w .10))
+      (j .if4 .came)
+
 walk-requires : tie.Need-walk-requires
 walk-requires c κs =
-    let m = c .before .before .before .before .mark in
-    let e = c .before .before .before .before .before .before .before in
-    let b = e .before .before .before .before .before .before .before in
-    (own (b .args .set .now) (m .last .1 .0) (m .last .1 .1 .0) 1 (m .ensures), refl, set-room (b .args .set .now) (b .args .out .now) (e .before .before .before .before .if1 .left) (room e) (drop 512 (m .last .1 .0)) (m .ensures .whole))
-
-cast-t21 : tie.Need-cast-t21
-cast-t21 c =
-    let w = c .before .before .before .walk in
-    let m = c .before .before .before .before .before .before .before .before .mark in
-    let e = c .before .before .before .before .before .before .before .before .before .before .before in
-    let b = e .before .before .before .before .before .before .before in
-    omega (arith, reads-fit (b .args .set .now) (b .args .out .now) (e .before .before .before .before .if1 .left) (room e) (drop 512 (m .last .1 .0)) (m .ensures .whole) (w .result) (w .last .1 .1 .1 .0) (w .last .1 .1 .0) (w .ensures))
+    let s = c .before .before .before .before .before .before .before in
+    let k = s .before .before .before .before .before in
+    let r = room-still (s .settled .ensures) (c .before .before .before .before .if4 .left) (there k) in
+    (marked k, refl, r .0, r .1)
 
 returns-4 : tie.Need-returns-4
 returns-4 c =
-    let w = c .before .before .before .walk in
-    let m = c .before .before .before .before .before .before .before .before .mark in
-    let e = c .before .before .before .before .before .before .before .before .before .before .before in
-    let b = e .before .before .before .before .before .before .before in
-    set-done (b .args .set .now) (b .args .out .now) (e .before .before .before .before .if1 .left) (room e) (drop 512 (m .last .1 .0)) (m .ensures .whole) (w .result) (w .last .1 .1 .1 .0) (w .last .1 .1 .0) (w .ensures)
+    let k = after-mark (c .before) in
+    let b = start k in
+    set-done (b .args .set .now) (b .args .out .now) (long k) (room (k .before .before .before)) (bytes k) (k .mark .ensures .whole) (found (c .before))
 
 pub search-set-spec : {M : Type 1} → statement M
 search-set-spec =
@@ -63,7 +90,8 @@ search-set-spec =
     (λ c κs. search needs)
     returns-3
     (λ c κs. search needs)
+    (λ c κs. let k = c .before .before .before .before in (marked k, refl, there k))
     walk-requires
-    cast-t21
-    (λ c. search needs)
+    (λ c. omega (arith, reads-fit (found (c .before))))
+    (λ c. walk-length (found (c .before)))
     returns-4)
