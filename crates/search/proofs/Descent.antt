@@ -77,20 +77,19 @@ module _ (bytes any : List ℕ) (m c : ℕ) (o : One bytes any 1) (n : length (d
     both = sym (halved S k₀ at) ∙ subst (λ (i : ℕ). devices S i at ≡ devices S m c) (half .1) (r .same)
 
     -- the lower half has it
-    pub in-low : inSet any (2 * step + at) ≡ true → Reached S m c (2 * step) (at + 0)
+    in-low : inSet any (2 * step + at) ≡ true → Reached S m c (2 * step) at
     in-low t =
         let l : 1 ≤ length (devices S k₀ at) = leb-true _ _ (sym asked ∙ t) in
         let z : devices S k₀ (at + 2 ^ (12 - suc k₀)) ≡ [] = none-in _ (let s = one-in in omega arith) in
-        let e : at + 0 ≡ at = omega arith in
-        rw e (record {
+        record {
           rest = k₀;
           wide = next-wide;
           group = in-lower k₀ at whole;
           same = sym (append-nil (devices S k₀ at)) ∙ ap (λ (k : List ℕ). devices S k₀ at ++ k) (sym z) ∙ both;
-        })
+        }
 
     -- the upper half has it
-    pub in-high : inSet any (2 * step + at) ≡ false → Reached S m c (2 * step) (at + step)
+    in-high : inSet any (2 * step + at) ≡ false → Reached S m c (2 * step) (at + step)
     in-high t =
         let l : length (devices S k₀ at) < 1 = leb-false _ _ (sym asked ∙ t) in
         let z : devices S k₀ at ≡ [] = none-in _ (omega arith) in
@@ -100,6 +99,14 @@ module _ (bytes any : List ℕ) (m c : ℕ) (o : One bytes any 1) (n : length (d
           group = in-upper k₀ at whole;
           same = ap (λ (k : List ℕ). k ++ devices S k₀ (at + 2 ^ (12 - suc k₀))) (sym z) ∙ both;
         })
+
+    -- one of them has it
+    pub in-half : (none : ℕ) → none ≡ cond (inSet any (2 * step + at)) 0 1 → Reached S m c (2 * step) (at + step * none)
+    in-half none e = go (inSet any (2 * step + at)) refl
+      where
+        go : (b : Bool) → inSet any (2 * step + at) ≡ b → Reached S m c (2 * step) (at + step * none)
+        go true t = let z : none ≡ 0 = e ∙ ap (λ (b : Bool). cond b 0 1) t in let p : at + step * none ≡ at = rw z (omega arith) in rw p (in-low t)
+        go false t = let z : none ≡ 1 = e ∙ ap (λ (b : Bool). cond b 0 1) t in let p : at + step * none ≡ at + step = rw z (omega arith) in rw p (in-high t)
 
   -- a device alone
   pub found : 4096 ≤ step → (devices S m c ≡ at ∷ []) × (at < 4096)

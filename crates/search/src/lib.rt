@@ -2,7 +2,7 @@
 use frames::LineAnswer;
 use refusals::Refusal;
 ghost use mathlib.Core.Path.{_≡_};
-ghost use mathlib.Core.Bool.{true};
+ghost use mathlib.Core.Bool.{true, cond};
 ghost use mathlib.Core.List.{[], _∷_};
 ghost use Prim.Native.Nat.{_+_, _-_, _*_, _^_, _≤_, _<_};
 ghost use lib.Dec.{leb};
@@ -268,8 +268,7 @@ fn lone(any: &[u8; 1024], m: usize, c: usize) -> u16
     let mut step = first_mark(m);
     let mut at = c;
     while step < 4096 {
-        let skip = if has(any, 2 * step + at) { 0 } else { step };
-        at = at + skip;
+        at = at + step * lacks(any, 2 * step + at);
         step = 2 * step;
     }
     at as u16
@@ -282,6 +281,16 @@ fn first_mark(m: usize) -> usize
     ensures { λ r. ⌜ r ≡ 2 ^ (12 - m) ⌝ }
 {
     4096 >> m
+}
+
+// 1 where this bit is not set, 0 where it is. A number and no branch: which half has the device cannot be foretold.
+fn lacks(bytes: &[u8], n: usize) -> usize
+    requires { ⌜ n < 8 * length (now bytes) ⌝ }
+    ensures { λ r. ⌜ r ≡ cond (inSet (now (bytes .entry)) n) 0 1 ⌝ }
+{
+    let i = n / 8;
+    let bit = (n % 8) as u8;
+    (1 - (bytes[i] >> bit) % 2) as usize
 }
 
 // Whether this bit is set: bit n mod 8 of byte n div 8.

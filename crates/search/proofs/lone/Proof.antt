@@ -1,13 +1,11 @@
 -- `search::lone` meets its contract: each half that is reached has the one device.
 -- Assumes nothing.
-use mathlib.Core.Path.{sym, _∙_}
-use mathlib.Core.Logic.{⊎-elim}
-use Prim.Native.Nat.{_-_, _*_, _≤_, _<_}
+use Prim.Native.Nat.{_+_, _-_, _*_, _≤_, _<_}
 use native.Mathlib.Omega.{arith}
 use lib.ListN.{drop}
 use Rattle.groups.proofs.Follow.{group-is}
 use Rattle.search.specs.Searches.{inSet}
-use Rattle.search.proofs.Descent.{Reached, at-first, near, half-wide, in-low, in-high, found}
+use Rattle.search.proofs.Descent.{Reached, at-first, near, half-wide, in-half, found}
 use Rattle.search.proofs.lone.Statement.{statement}
 use Rattle.search.proofs.lone.Tie as tie
 
@@ -27,25 +25,22 @@ inside i =
       half-wide bytes (b .args .any .now) (b .args .m) (b .args .c) (b .pre .1) (b .pre .3) (l .step) (l .at) (l .inv) (i .loop-test .taken),
     )
 
-has-requires : tie.Need-has-requires Inv-loop μ-loop
-has-requires c κs = let i = c .before in omega (arith, inside i, i .before .before .before .pre .0)
+lacks-requires : tie.Need-lacks-requires Inv-loop μ-loop
+lacks-requires c κs = let i = c .before in omega (arith, inside i, i .before .before .before .pre .0)
 
 loop-again : tie.Need-loop-again Inv-loop μ-loop
 loop-again c =
-    let e = c .before .before .has .ensures in
-    let i = c .before .before .before .before in
+    let i = c .before .before in
     let l = i .before .loop in
     let b = i .before .before .before in
-    let bytes = drop 512 (b .args .any .now) in
-    ⊎-elim
-    (λ w. rw (w .1) (in-low bytes (b .args .any .now) (b .args .m) (b .args .c) (b .pre .1) (b .pre .3) (l .step) (l .at) (l .inv) (i .loop-test .taken) (sym e ∙ w .0 .taken)))
-    (λ w. rw (w .1) (in-high bytes (b .args .any .now) (b .args .m) (b .args .c) (b .pre .1) (b .pre .3) (l .step) (l .at) (l .inv) (i .loop-test .taken) (sym e ∙ w .0 .left)))
-    (c .before .if1 .came)
+    in-half (drop 512 (b .args .any .now)) (b .args .any .now) (b .args .m) (b .args .c) (b .pre .1) (b .pre .3) (l .step) (l .at) (l .inv) (i .loop-test .taken) (c .lacks .result) (c .lacks .ensures)
 
-add-at : tie.Need-add-at Inv-loop μ-loop
-add-at c =
-    let i = c .before .before .before .before in
-    ⊎-elim (λ w. omega (arith, inside i, w .1)) (λ w. omega (arith, inside i, w .1)) (c .before .if1 .came)
+-- where it goes on
+next : (c : tie.After-lacks Inv-loop μ-loop) → c .before .before .before .loop .at + c .before .before .before .loop .step * c .lacks .result ≤ 4096
+next c =
+    let l = c .before .before .before .loop in
+    let b = c .before .before .before .before .before in
+    omega (arith, near (drop 512 (b .args .any .now)) (b .args .any .now) (b .args .m) (b .args .c) (b .pre .1) (b .pre .3) (2 * l .step) (l .at + l .step * c .lacks .result) (loop-again c))
 
 cast-result : tie.Need-cast-result Inv-loop μ-loop
 cast-result c =
@@ -69,10 +64,11 @@ lone-spec =
     (λ c. at-first (inSet (drop 512 (c .before .args .any .now))) (c .before .args .m) (c .before .args .c) (c .first-mark .result) (group-is _ _ (c .before .pre .2)) (c .first-mark .ensures))
     (λ c. omega (arith, inside (c .before)))
     (λ c. omega (arith, inside (c .before)))
-    has-requires
-    add-at
-    (λ c. omega (arith, inside (c .before .before .before .before)))
-    (λ c. omega (arith, inside (c .before .before .before .before), c .before .before .before .before .loop-test .taken))
+    lacks-requires
+    (λ c. omega (arith, next c))
+    (λ c. omega (arith, next c))
+    (λ c. omega (arith, inside (c .before .before)))
+    (λ c. omega (arith, inside (c .before .before), c .before .before .loop-test .taken))
     loop-again
     cast-result
     returns)

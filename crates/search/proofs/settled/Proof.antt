@@ -1,6 +1,5 @@
 -- `search::settled` meets its contract: silence, a reply, a collision.
 -- Assumes nothing.
-use Prim.Native.Nat.{_<_}
 use native.Mathlib.Omega.{arith}
 use borrow.Author.Needs.{needs}
 use lib.ListN.{drop}
