@@ -1,6 +1,6 @@
 -- A cycle that stands at a place of a file: its count, its words, its split numbers.
 -- Assumes nothing.
-use Prim.Native.Nat.{ℕ, zero, suc, _+_, _-_, _^_, _≤_, _<_}
+use Prim.Native.Nat.{ℕ, zero, suc, _+_, _^_, _≤_}
 use mathlib.Core.Path.{_≡_, refl, ap, sym, _∙_}
 use mathlib.Core.List.{List, [], _∷_, _++_, append-assoc}
 use native.Mathlib.Omega.{arith}
@@ -13,7 +13,8 @@ use Rattle.numbers.proofs.WrittenLaws.{written-append}
 use Rattle.numbers.proofs.ThereLaws.{cut-written, sum-there}
 use Rattle.list_laws.specs.Written.{All, Split}
 use Rattle.list_laws.proofs.Acceptance.{words-most, small-most}
-use Rattle.periods.specs.Inside.{CycleHere, SplitHere}
+use Rattle.periods.specs.Inside.{after, CycleHere, SplitHere}
+use Rattle.periods.proofs.SkipLaws.{skip-there}
 
 -- the split numbers of a cycle that has any
 splits-of : (n : ℕ) (ws zs : List ℕ) → Split n ws zs → (2 ^ n ≡ 1 → ⊥) → (length ws ≡ 0 → ⊥) → (length zs ≡ 2 ^ n) × All (λ z. z ≤ 256) zs × (sum zs ≡ length ws)
@@ -48,6 +49,10 @@ module _ (s : List ℕ) (at count size : ℕ) (h : SplitHere s at count size) wh
 
   pub after-words : (total next : ℕ) → Added s at count total next → drop next s ≡ written (h .c .splits) ++ h .rest
   after-words total next a = sum-there s (h .c .words) (written (h .c .splits) ++ h .rest) at all-words-most (h .bytes) count total next (h .count-is) a .1
+
+  -- the same where they are not added up
+  pub past-words : (next : ℕ) → next ≡ at + after count (drop at s) → drop next s ≡ written (h .c .splits) ++ h .rest
+  past-words next e = skip-there s (h .c .words) (written (h .c .splits) ++ h .rest) at all-words-most (h .bytes) count next (h .count-is) e
 
 -- ---- any cycle
 module _ (s : List ℕ) (at size : ℕ) (h : CycleHere s at size) (count p : ℕ) (a : Added s at 1 count p) where

@@ -1,4 +1,5 @@
 pub mod CopyLaws
+pub mod SkipLaws
 pub mod HereLaws
 pub mod SubcycleLaws
 pub mod PeriodLaws

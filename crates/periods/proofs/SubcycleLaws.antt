@@ -7,14 +7,15 @@ use mathlib.Core.List.{List, [], _∷_, _++_}
 use native.Mathlib.Omega.{arith}
 use lib.ListN.{length, getD, take, drop, length-take, length-drop, take-append-drop}
 use lib.Seq.{drop-drop, drop-cons, drop-length, length-take-le}
-use Rattle.numbers.specs.Number.{sum, run}
+use Rattle.numbers.specs.Number.{sum}
 use Rattle.numbers.specs.Written.{written, Most}
 use Rattle.numbers.proofs.RunLaws.{Done, Added}
 use Rattle.numbers.proofs.ThereLaws.{most-left, most-right, cut-written, sum-there, read-there}
 use Rattle.lists.specs.Sends.{cutBy, subcycles, subcycle}
 use Rattle.list_laws.proofs.Acceptance.{words-most}
-use Rattle.periods.specs.Inside.{CycleHere, SplitHere, SubFits, PartSent}
-use Rattle.periods.proofs.HereLaws.{shape, splits-most, all-words-most, after-words, count-there, no-split, only-words, no-word, nothing-here}
+use Rattle.periods.specs.Inside.{after, CycleHere, SplitHere, SubFits, PartSent}
+use Rattle.periods.proofs.SkipLaws.{skip-there}
+use Rattle.periods.proofs.HereLaws.{shape, splits-most, all-words-most, past-words, count-there, no-split, only-words, no-word, nothing-here}
 
 cut-at : (ws zs : List ℕ) (s : ℕ) → s < length zs → getD (cutBy ws zs) s [] ≡ take (getD zs s 0) (drop (sum (take s zs)) ws)
 cut-at ws [] s h = absurd (omega arith)
@@ -71,13 +72,13 @@ module _ (s : List ℕ) (at count size sub room : ℕ) (h : SplitHere s at count
   own-fits : own ≤ room
   own-fits = omega (arith, f .1, ap length the-words, own-long)
 
-  module _ (t₁ p₁ : ℕ) (a₁ : Added s at count t₁ p₁) (t₂ p₂ : ℕ) (a₂ : Added s p₁ sub t₂ p₂) where
+  module _ (p₁ : ℕ) (e₁ : p₁ ≡ at + after count (drop at s)) (t₂ p₂ : ℕ) (a₂ : Added s p₁ sub t₂ p₂) where
     before : (t₂ ≡ from) × (drop p₂ s ≡ written (drop sub zs) ++ h .rest)
     unfolding from zs
     before =
         let l : length (take sub zs) ≡ sub = length-take-le sub zs (omega (arith, inside)) in
         let m : Most (take sub zs) = most-left (take sub zs) (drop sub zs) (subst Most (sym (take-append-drop sub zs)) zs-most) in
-        sum-there s (take sub zs) (written (drop sub zs) ++ h .rest) p₁ m (after-words s at count size h t₁ p₁ a₁ ∙ cut-written sub zs (h .rest)) sub t₂ p₂ (sym l) a₂
+        sum-there s (take sub zs) (written (drop sub zs) ++ h .rest) p₁ m (past-words s at count size h p₁ e₁ ∙ cut-written sub zs (h .rest)) sub t₂ p₂ (sym l) a₂
 
     pub before-small : t₂ ≤ 256
     unfolding ws
@@ -102,20 +103,20 @@ module _ (s : List ℕ) (at count size sub room : ℕ) (h : SplitHere s at count
       here-fits = omega (arith, here .0, own-fits)
 
       -- the place after the cycle, or the list's end where nothing follows
-      pub after-all : (last : Bool) (p₄ : ℕ) → (last ≡ true → p₄ ≡ length s) × (last ≡ false → p₄ ≡ p₃ + run (size - sub - 1) (drop p₃ s) .used) → (last ≡ true → h .rest ≡ []) → drop p₄ s ≡ h .rest
+      pub after-all : (last : Bool) (p₄ : ℕ) → (last ≡ true → p₄ ≡ length s) × (last ≡ false → p₄ ≡ p₃ + after (size - sub - 1) (drop p₃ s)) → (last ≡ true → h .rest ≡ []) → drop p₄ s ≡ h .rest
       unfolding zs
       after-all true p₄ e none = ap (λ (p : ℕ). drop p s) (e .0 refl) ∙ drop-length s ∙ sym (none refl)
       after-all false p₄ e none =
           let l : size - sub - 1 ≡ length (drop (suc sub) zs) = omega (arith, length-drop (suc sub) zs, shape s at count size h .0) in
-          sum-there s (drop (suc sub) zs) (h .rest) p₃ (rest-most .1) (here .1) (size - sub - 1) (sum (run (size - sub - 1) (drop p₃ s) .values)) p₄ l (refl, e .1 refl) .1
+          skip-there s (drop (suc sub) zs) (h .rest) p₃ (rest-most .1) (here .1) (size - sub - 1) p₄ l (e .1 refl)
 
-      module _ (p₄ : ℕ) (after : drop p₄ s ≡ h .rest) (t₅ p₅ : ℕ) (a₅ : Added s at t₂ t₅ p₅) where
+      module _ (p₄ : ℕ) (behind : drop p₄ s ≡ h .rest) (p₅ : ℕ) (e₅ : p₅ ≡ at + after t₂ (drop at s)) where
         first-there : drop p₅ s ≡ written (drop from ws) ++ (written zs ++ h .rest)
         unfolding ws zs
         first-there =
             let l : t₂ ≡ length (take from ws) = omega (arith, before .0, length-take-le from ws (omega (arith, within))) in
             let m : Most (take from ws) = most-left (take from ws) (drop from ws) (subst Most (sym (take-append-drop from ws)) ws-most) in
-            sum-there s (take from ws) (written (drop from ws) ++ (written zs ++ h .rest)) at m (h .bytes ∙ cut-written from ws (written zs ++ h .rest)) t₂ t₅ p₅ l a₅ .1
+            skip-there s (take from ws) (written (drop from ws) ++ (written zs ++ h .rest)) at m (h .bytes ∙ cut-written from ws (written zs ++ h .rest)) t₂ p₅ l e₅
 
         pub part-sent : (out part : List ℕ) (k p₆ : ℕ) → length out ≡ room → Done s p₅ (take t₃ out) part k p₆ → PartSent s (h .c) sub (h .rest) out (part ++ drop t₃ out) t₃ p₄
         part-sent out part k p₆ r d =
@@ -125,7 +126,7 @@ module _ (s : List ℕ) (at count size sub room : ℕ) (h : SplitHere s at count
             let q : Most (drop from ws) = most-right (take from ws) (drop from ws) (subst Most (sym (take-append-drop from ws)) ws-most) in
             let m : Most u = most-left u v (subst Most (sym (take-append-drop own (drop from ws))) q) in
             let x = read-there s u (written v ++ (written zs ++ h .rest)) p₅ m (first-there ∙ cut-written own (drop from ws) (written zs ++ h .rest)) (take t₃ out) part k p₆ l d in
-            (here .0 ∙ sym own-long ∙ ap length (sym the-words), after, ap (λ (y : List ℕ). y ++ drop t₃ out) (x .0 ∙ sym the-words))
+            (here .0 ∙ sym own-long ∙ ap length (sym the-words), behind, ap (λ (y : List ℕ). y ++ drop t₃ out) (x .0 ∙ sym the-words))
 
 -- ---- any cycle
 only-one : (ws : List ℕ) (sub : ℕ) → sub < 1 → getD (ws ∷ []) sub [] ≡ ws

@@ -1,13 +1,27 @@
 -- What the functions inside this crate promise each other.
 -- Assumes nothing.
-use Prim.Native.Nat.{ℕ, _^_, _≤_, _<_}
+use Prim.Native.Nat.{ℕ, zero, suc, _+_, _^_, _≤_, _<_}
 use mathlib.Core.Path.{_≡_}
-use mathlib.Core.List.{List, _++_}
+use mathlib.Core.Bool.{cond}
+use mathlib.Core.List.{List, [], _∷_, _++_}
+use lib.Dec.{ltb}
 use lib.ListN.{length, drop}
+use Rattle.checks.specs.Bits.{one}
 use Rattle.numbers.specs.Written.{written}
 use Rattle.lists.specs.Values.{Cycle, PeriodicList}
 use Rattle.lists.specs.Sends.{subcycle, sends}
 use Rattle.list_laws.specs.Written.{cycleNumbers, CycleObeys, Obeys, file}
+
+-- how many of some bytes end a number: "top bit set on every byte but its last"
+abbrev pub ends : List ℕ → ℕ
+ends [] = 0
+ends (b ∷ l) = one (ltb b 128) + ends l
+
+-- how many bytes there are up to the end of so many numbers, or all where they run out
+abbrev pub after : ℕ → List ℕ → ℕ
+after zero l = 0
+after (suc k) [] = 0
+after (suc k) (b ∷ l) = 1 + cond (ltb b 128) (after k l) (after (suc k) l)
 
 -- a cycle with so many Subcycles stands at a place, then other bytes
 pub record CycleHere (s : List ℕ) (at size : ℕ) : Type 0 where

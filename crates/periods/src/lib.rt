@@ -1,4 +1,6 @@
 // What a Basic Period sends.
+mod skips;
+
 use lists::ListCheck;
 use lists::cycles_of;
 use lists::list_check;
@@ -8,14 +10,13 @@ use numbers::sum_numbers;
 use refusals::Refusal;
 ghost use mathlib.Core.Path.{_≡_};
 ghost use mathlib.Core.Bool.{true, false};
-ghost use mathlib.Core.List.{List, [], _∷_, _++_};
-ghost use Prim.Native.Nat.{ℕ, _+_, _≤_, _<_};
+ghost use mathlib.Core.List.{[], _∷_, _++_};
+ghost use Prim.Native.Nat.{_+_, _≤_, _<_};
 ghost use lib.ListN.{length, drop};
-ghost use Rattle.numbers.specs.Number.{run};
 ghost use Rattle.refusals.specs.Told.{gives, refusal};
 ghost use Rattle.lists.specs.Values.{periodsOf};
 ghost use Rattle.periods.specs.Period.{periodBy, toldSent};
-ghost use Rattle.periods.specs.Inside.{CycleHere, SplitHere, SubFits, PartSent, IsList, PeriodWords};
+ghost use Rattle.periods.specs.Inside.{after, CycleHere, SplitHere, SubFits, PartSent, IsList, PeriodWords};
 
 // How many words were written.
 pub enum Sent {
@@ -42,13 +43,12 @@ fn put(src: &[u16], out: &mut [u16])
 
 // The place after so many numbers; behind the last cycle, the list's end.
 fn place_after(list: &[u8], at: usize, left: u16, last: bool) -> usize
-    ensures { λ r. ⌜ (last ≡ true → r ≡ length (now (list .entry))) × (last ≡ false → r ≡ at + run left (drop at (now (list .entry))) .used) ⌝ }
+    ensures { λ r. ⌜ (last ≡ true → r ≡ length (now (list .entry))) × (last ≡ false → r ≡ at + after left (drop at (now (list .entry)))) ⌝ }
 {
     if last {
         return list.len();
     }
-    let numbers = sum_numbers(list, at, left);
-    numbers.next
+    skips::skip(list, at, left)
 }
 
 // Subcycle sub of a cycle with split numbers, whose words start at a place: the words are passed over, the split numbers
@@ -66,13 +66,13 @@ fn put_split(
     ensures { λ r. ⌜ ((h : SplitHere (now (list .entry)) at count size) → (last ≡ true → h .rest ≡ []) → SubFits (h .c) size sub (length (now (out .entry)))
         → PartSent (now (list .entry)) (h .c) sub (h .rest) (now (out .entry)) (now (out .exit)) (r .many) (r .next)) ⌝ }
 {
-    let words = sum_numbers(list, at, count);
-    let before = sum_numbers(list, words.next, sub);
+    let words = skips::skip(list, at, count);
+    let before = sum_numbers(list, words, sub);
     let here = sum_numbers(list, before.next, 1);
     let next = place_after(list, here.next, size - sub - 1, last);
-    let first = sum_numbers(list, at, before.total as u16);
+    let first = skips::skip(list, at, before.total as u16);
     let many = here.total;
-    read_numbers(list, first.next, &mut out[..many]);
+    read_numbers(list, first, &mut out[..many]);
     Part { many, next }
 }
 

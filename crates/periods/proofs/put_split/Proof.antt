@@ -8,20 +8,37 @@ use Rattle.periods.proofs.SubcycleLaws.{before-small, here-fits, after-
 use Rattle.periods.proofs.put_split.Statement.{statement}
 use Rattle.periods.proofs.put_split.Tie as tie
 
-cast-sum-numbers : tie.Need-cast-sum-numbers
-cast-sum-numbers c = omega (arith, before-small (c .before .before .before .before .before .before .before .args .list .now) (c .before .before .before .before .before .before .before .args .at) (c .before .before .before .before .before .before .before .args .count) (c .before .before .before .before .before .before .before .args .size) (c .before .before .before .before .before .before .before .args .sub) _ (c .before .before .before .before .before .before .before .pre .0) (c .before .before .before .before .before .before .before .pre .1) _ _ (c .before .before .before .before .sum-numbers .ensures) _ _ (c .before .before .before .sum-numbers2 .ensures))
+cast-skip : tie.Need-cast-skip
+cast-skip c =
+    let here : tie.After-sum-numbers2 = c .before .before in
+    let before : tie.After-sum-numbers = here .before in
+    let words : tie.After-skip = before .before in
+    let start : tie.Start = words .before .before .before in
+    omega (arith, before-small (start .args .list .now) (start .args .at) (start .args .count) (start .args .size) (start .args .sub) _ (start .pre .0) (start .pre .1) _ (words .skip .ensures) _ _ (before .sum-numbers .ensures))
 
 slice-relend-prefix-read-numbers : tie.Need-slice-relend-prefix-read-numbers
-slice-relend-prefix-read-numbers c = here-fits (c .before .before .before .before .before .before .before .before .args .list .now) (c .before .before .before .before .before .before .before .before .args .at) (c .before .before .before .before .before .before .before .before .args .count) (c .before .before .before .before .before .before .before .before .args .size) (c .before .before .before .before .before .before .before .before .args .sub) _ (c .before .before .before .before .before .before .before .before .pre .0) (c .before .before .before .before .before .before .before .before .pre .1) _ _ (c .before .before .before .before .before .sum-numbers .ensures) _ _ (c .before .before .before .before .sum-numbers2 .ensures) _ _ (c .before .before .before .sum-numbers3 .ensures)
+slice-relend-prefix-read-numbers c =
+    let here : tie.After-sum-numbers2 = c .before .before .before in
+    let before : tie.After-sum-numbers = here .before in
+    let words : tie.After-skip = before .before in
+    let start : tie.Start = words .before .before .before in
+    here-fits (start .args .list .now) (start .args .at) (start .args .count) (start .args .size) (start .args .sub) _ (start .pre .0) (start .pre .1) _ (words .skip .ensures) _ _ (before .sum-numbers .ensures) _ _ (here .sum-numbers2 .ensures)
 
 slice-aggregate-read-numbers : tie.Need-slice-aggregate-read-numbers
-slice-aggregate-read-numbers c = sym (length-take-le _ _ (here-fits (c .before .before .before .before .before .before .before .before .before .args .list .now) (c .before .before .before .before .before .before .before .before .before .args .at) (c .before .before .before .before .before .before .before .before .before .args .count) (c .before .before .before .before .before .before .before .before .before .args .size) (c .before .before .before .before .before .before .before .before .before .args .sub) _ (c .before .before .before .before .before .before .before .before .before .pre .0) (c .before .before .before .before .before .before .before .before .before .pre .1) _ _ (c .before .before .before .before .before .before .sum-numbers .ensures) _ _ (c .before .before .before .before .before .sum-numbers2 .ensures) _ _ (c .before .before .before .before .sum-numbers3 .ensures)))
+slice-aggregate-read-numbers c = sym (length-take-le _ _ (slice-relend-prefix-read-numbers (c .before)))
 
 returns : tie.Need-returns
 returns c h none f =
-    part-sent (c .before .before .before .before .before .before .before .before .before .before .before .before .args .list .now) (c .before .before .before .before .before .before .before .before .before .before .before .before .args .at) (c .before .before .before .before .before .before .before .before .before .before .before .before .args .count) (c .before .before .before .before .before .before .before .before .before .before .before .before .args .size) (c .before .before .before .before .before .before .before .before .before .before .before .before .args .sub) _ h f _ _ (c .before .before .before .before .before .before .before .before .before .sum-numbers .ensures) _ _ (c .before .before .before .before .before .before .before .before .sum-numbers2 .ensures) _ _ (c .before .before .before .before .before .before .before .sum-numbers3 .ensures) (c .before .before .before .before .before .before .place-after .result)
-    (after-all (c .before .before .before .before .before .before .before .before .before .before .before .before .args .list .now) (c .before .before .before .before .before .before .before .before .before .before .before .before .args .at) (c .before .before .before .before .before .before .before .before .before .before .before .before .args .count) (c .before .before .before .before .before .before .before .before .before .before .before .before .args .size) (c .before .before .before .before .before .before .before .before .before .before .before .before .args .sub) _ h f _ _ (c .before .before .before .before .before .before .before .before .before .sum-numbers .ensures) _ _ (c .before .before .before .before .before .before .before .before .sum-numbers2 .ensures) _ _ (c .before .before .before .before .before .before .before .sum-numbers3 .ensures) (c .before .before .before .before .before .before .before .before .before .before .before .before .args .last) (c .before .before .before .before .before .before .place-after .result) (c .before .before .before .before .before .before .place-after .ensures) none)
-    _ _ (c .before .before .before .before .sum-numbers4 .ensures) (c .before .before .before .before .before .before .before .before .before .before .before .before .args .out .now) _ _ _ refl (c .before .before .read-numbers .ensures)
+    let reading : tie.After-read-numbers = c .before .before in
+    let first : tie.After-skip2 = reading .before .before in
+    let next : tie.After-place-after = first .before .before in
+    let here : tie.After-sum-numbers2 = next .before in
+    let before : tie.After-sum-numbers = here .before in
+    let words : tie.After-skip = before .before in
+    let start : tie.Start = words .before .before .before in
+    part-sent (start .args .list .now) (start .args .at) (start .args .count) (start .args .size) (start .args .sub) _ h f _ (words .skip .ensures) _ _ (before .sum-numbers .ensures) _ _ (here .sum-numbers2 .ensures) (next .place-after .result)
+    (after-all (start .args .list .now) (start .args .at) (start .args .count) (start .args .size) (start .args .sub) _ h f _ (words .skip .ensures) _ _ (before .sum-numbers .ensures) _ _ (here .sum-numbers2 .ensures) (start .args .last) (next .place-after .result) (next .place-after .ensures) none)
+    _ (first .skip2 .ensures) (start .args .out .now) _ _ _ refl (reading .read-numbers .ensures)
 
 pub put-split-spec : {M : Type 1} → statement M
 put-split-spec =
@@ -33,7 +50,7 @@ put-split-spec =
     (λ c. search needs)
     (λ c. search needs)
     (λ c κs. search needs)
-    cast-sum-numbers
+    cast-skip
     (λ c κs. search needs)
     slice-relend-prefix-read-numbers
     slice-aggregate-read-numbers
