@@ -3,19 +3,20 @@
 use mathlib.Core.Path.{_≡_, refl, sym, ap, ap₂, _∙_}
 use mathlib.Core.Bool.{Bool, true, false, not, cond, _&&_, and-eq-true-iff, and-false}
 use mathlib.Core.List.{List, [], _∷_, _++_, append-nil}
-use Prim.Native.Nat.{ℕ, _+_, _*_, _≤_, _<_}
+use Prim.Native.Nat.{ℕ, _+_, _*_, _^_, _≤_, _<_}
 use native.Mathlib.Omega.{arith}
 use borrow.Author.Tests.{eq-eqb, ne-eqb, lt-ltb, le-ltb, le-leb, lt-leb, leb-true, ltb-true, ltb-false, eqb-true, not-true, not-false}
 use lib.Dec.{eqb, ltb, leb}
 use lib.ListN.{length, getD, List·getD-append, List·getD-eq-default}
 use lib.Seq.{getD-append-seam}
+use Rattle.rows.specs.Rows.{dataBytes}
 use Rattle.port_table.specs.declared.Port.{Port}
 use Rattle.port_table.specs.declared.Place.{Place}
 use Rattle.port_table.specs.declared.Seen.{Seen}
 use Rattle.port_table.specs.declared.records.Walk.{Walk}
 use Rattle.port_table.specs.Table.{good, portBytes, tableBytes, before, placeOf, noPort, portOf, listed}
 use Rattle.port_table.specs.Seen.{emptySeen, goodSeen, seenOf}
-use Rattle.port_table.specs.Inside.{nextFrom, noWalk, walkedOf, climbs, follow, placeIn, shownBy, Keeps, Shows}
+use Rattle.port_table.specs.Inside.{nextFrom, noWalk, walkedOf, climbs, heavy, follow, placeIn, shownBy, Keeps, OnWalk, Shows}
 use Rattle.port_table.proofs.OneMore.{by-cases, not-both, bytes-more, length-more, good-is, climbs-more, next-more, before-found, before-missed, listed-below}
 
 -- ---- what a walk shows
@@ -102,15 +103,48 @@ walked-is n = by-cases (ltb 256 n)
 
 pub none-walks : (a : ℕ) → Keeps noWalk a []
 unfolding climbs nextFrom tableBytes before
-none-walks a = record { climbing = refl; above = refl; small = omega arith; earlier = λ t. not-both t refl; shows = λ t. refl }
+none-walks a = record { climbing = refl; above = refl; light = λ _. omega arith; most = omega arith; earlier = λ t. not-both t refl; shows = λ t. refl }
+
+-- four tests, the two in the middle exchanged
+and-swap : (a b c d : Bool) → ((a && b) && (c && d)) ≡ ((a && c) && (b && d))
+and-swap true true c d = refl
+and-swap true false true d = refl
+and-swap true false false d = refl
+and-swap false b c d = refl
+
+-- what a record of this F_code adds to the sum
+abbrev Weighs : ℕ → ℕ → Type 0
+Weighs f size = (f < 5 → (size ≡ dataBytes f) × (size ≤ 32)) × (5 ≤ f → size ≡ heavy)
+
+weighs-most : (f size : ℕ) → Weighs f size → size ≤ heavy
+weighs-most f size es = by-cases (ltb f 5) (λ t. omega (arith, es .0 (ltb-true f 5 t) .1)) (λ h. omega (arith, es .1 (ltb-false f 5 h)))
+
+-- the sum has room for one record more
+pub sum-fits : (w : Walk) (i a f size : ℕ) → OnWalk w i a → Weighs f size → w .bytes + size < 2 ^ 64
+sum-fits w i a f size (ps, k, l, h) es = omega (arith, k .most, weighs-most f size es)
 
 -- one record more
-module _ (w : Walk) (a : ℕ) (ps : List Port) (k : Keeps w a ps) (p : Port) (good : Bool) (eg : good ≡ follow w p) (size : ℕ) (es : p .«f_code» < 5 → size ≡ portBytes p) (few : size ≤ 32) where
-  still : good ≡ climbs 0 (ps ++ p ∷ [])
-  still = eg ∙ ap₂ (λ (b : Bool) (n : ℕ). b && (leb n (p .address) && ltb (p .«f_code») 5)) (k .climbing) (k .above) ∙ sym (climbs-more 0 ps p)
+module _ (w : Walk) (a : ℕ) (ps : List Port) (k : Keeps w a ps) (i : ℕ) (l : length ps ≡ i) (few : i < 256) (p : Port) (good : Bool) (eg : good ≡ follow w (p .address)) (size : ℕ) (es : Weighs (p .«f_code») size) where
+  -- the sum stays light where it was and the F_code is good
+  summed : ltb (w .bytes + size) heavy ≡ (ltb (w .bytes) heavy && ltb (p .«f_code») 5)
+  summed = by-cases (ltb (p .«f_code») 5)
+      (λ f. by-cases (ltb (w .bytes) heavy)
+      (λ t. lt-ltb (w .bytes + size) heavy (omega (arith, es .0 (ltb-true (p .«f_code») 5 f) .1, k .light (ltb-true (w .bytes) heavy t), l, few)) ∙ sym (ap₂ _&&_ t f))
+      (λ h. le-ltb (w .bytes + size) heavy (omega (arith, ltb-false (w .bytes) heavy h)) ∙ sym (ap (λ (b : Bool). b && ltb (p .«f_code») 5) h)))
+      (λ f. le-ltb (w .bytes + size) heavy (omega (arith, es .1 (ltb-false (p .«f_code») 5 f))) ∙ sym (ap (λ (b : Bool). ltb (w .bytes) heavy && b) f ∙ and-false (ltb (w .bytes) heavy)))
 
-  more-bytes : w .bytes + size ≤ 32 * length (ps ++ p ∷ [])
-  more-bytes = omega (arith, k .small, few, length-more ps p)
+  still : (good && ltb (w .bytes + size) heavy) ≡ climbs 0 (ps ++ p ∷ [])
+  still =
+      ap₂ _&&_ eg summed ∙ and-swap (w .good) (leb (w .next) (p .address)) (ltb (w .bytes) heavy) (ltb (p .«f_code») 5)
+      ∙ ap₂ (λ (b : Bool) (n : ℕ). b && (leb n (p .address) && ltb (p .«f_code») 5)) (k .climbing) (k .above) ∙ sym (climbs-more 0 ps p)
+
+  light-more : w .bytes + size < heavy → w .bytes + size ≤ 32 * length (ps ++ p ∷ [])
+  light-more h = by-cases (ltb (p .«f_code») 5)
+      (λ f. omega (arith, es .0 (ltb-true (p .«f_code») 5 f) .1, k .light (omega (arith, h)), length-more ps p))
+      (λ f. absurd (omega (arith, h, es .1 (ltb-false (p .«f_code») 5 f))))
+
+  most-more : w .bytes + size ≤ heavy * length (ps ++ p ∷ [])
+  most-more = omega (arith, k .most, weighs-most (p .«f_code») size es, length-more ps p)
 
   -- what records in order say of the last
   module _ (t : climbs 0 (ps ++ p ∷ []) ≡ true) where
@@ -124,7 +158,7 @@ module _ (w : Walk) (a : ℕ) (ps : List Port) (k : Keeps w a ps) (p : Port) (go
     showed = k .shows (was .0)
 
     sized : size ≡ portBytes p
-    sized = es (was .2)
+    sized = es .0 (was .2) .0
 
     -- all but the place
     shows-more : (place : Place) → place ≡ placeAfter (goodSeen a ps) p (portBytes p) a
@@ -164,12 +198,13 @@ module _ (w : Walk) (a : ℕ) (ps : List Port) (k : Keeps w a ps) (p : Port) (go
         ∙ ap₂ behind (length-more ps p) (ap₂ (λ (s : Seen) (n : ℕ). s .bytes + n) showed sized)
         ∙ place-on (goodSeen a ps) p (portBytes p) a (omega (arith, z)) h)
 
-  pub walks-found : (i : ℕ) → length ps ≡ i → p .address ≡ a
+  pub walks-found : p .address ≡ a
       → Keeps (record { good = good; found = true; «f_code» = p .«f_code»; sink = p .sink; next = p .address + 1; bytes = w .bytes + size; at = i; offset = w .bytes; size = size }) a (ps ++ p ∷ [])
-  walks-found i l h = record {
+  walks-found h = record {
     climbing = still;
     above = sym (next-more 0 ps p);
-    small = more-bytes;
+    light = light-more;
+    most = most-more;
     earlier = λ _. omega (arith, length-more ps p);
     shows = λ t. shows-more t _ (ap (λ (n : ℕ). record { at = n; offset = w .bytes; size = size; «f_code» = p .«f_code»; sink = p .sink }) (sym l) ∙ place-found t h);
   }
@@ -179,12 +214,16 @@ module _ (w : Walk) (a : ℕ) (ps : List Port) (k : Keeps w a ps) (p : Port) (go
   walks-on h = record {
     climbing = still;
     above = sym (next-more 0 ps p);
-    small = more-bytes;
+    light = light-more;
+    most = most-more;
     earlier = λ b. omega (arith, k .earlier b, length-more ps p);
     shows = λ t. shows-more t _ (place-stays t h);
   }
 
 -- ---- what it shows
+
+not-climbing : (ps : List Port) → climbs 0 ps ≡ false → good ps ≡ false
+not-climbing ps h = good-is ps ∙ ap (λ (b : Bool). leb (length ps) 256 && (b && leb (nextFrom 0 ps) 4096)) h ∙ and-false (leb (length ps) 256)
 
 module _ (w : Walk) (n : ℕ) where
   pub shown-many : 256 < n → Shows w n (emptySeen false)
@@ -192,17 +231,18 @@ module _ (w : Walk) (n : ℕ) where
 
   module _ (few : n ≤ 256) where
     pub shown-unordered : not (w .good) ≡ true → Shows w n (emptySeen false)
-    shown-unordered g = λ a ps l k.
-        sym (seen-bad a ps (good-is ps ∙ ap (λ (b : Bool). leb (length ps) 256 && (b && leb (nextFrom 0 ps) 4096)) (sym (k few .climbing) ∙ not-true (w .good) g) ∙ and-false (leb (length ps) 256)))
+    shown-unordered g = λ a ps l k. sym (seen-bad a ps (not-climbing ps (sym (k few .climbing) ∙ ap (λ (b : Bool). b && ltb (w .bytes) heavy) (not-true (w .good) g))))
 
-    module _ (g : not (w .good) ≡ false) where
-      pub shown-high : 4096 < w .next → Shows w n (emptySeen false)
-      shown-high h = λ a ps l k.
-          sym (seen-bad a ps (good-is ps ∙ ap (λ (b : Bool). leb (length ps) 256 && (climbs 0 ps && b)) (lt-leb (nextFrom 0 ps) 4096 (omega (arith, k few .above)))
-          ∙ ap (λ (b : Bool). leb (length ps) 256 && b) (and-false (climbs 0 ps)) ∙ and-false (leb (length ps) 256)))
+    pub shown-heavy : heavy ≤ w .bytes → Shows w n (emptySeen false)
+    shown-heavy h = λ a ps l k. sym (seen-bad a ps (not-climbing ps (sym (k few .climbing) ∙ ap (λ (b : Bool). w .good && b) (le-ltb (w .bytes) heavy h) ∙ and-false (w .good))))
 
-      pub shown-good : w .next ≤ 4096 → (place : Place) → place ≡ placeIn w n → Shows w n (record { good = true; count = n; bytes = w .bytes; place = place })
-      shown-good h place e = λ a ps l k.
-          let c : climbs 0 ps ≡ true = sym (k few .climbing) ∙ not-false (w .good) g in
-          let t : good ps ≡ true = good-is ps ∙ ap₂ (λ (x y : Bool). x && (climbs 0 ps && y)) (le-leb (length ps) 256 (omega arith)) (le-leb (nextFrom 0 ps) 4096 (omega (arith, k few .above))) ∙ ap (λ (b : Bool). b && true) c in
-          ap (λ (x : Place). record { good = true; count = n; bytes = w .bytes; place = x }) e ∙ ap (shownBy w) (sym l) ∙ k few .shows c ∙ sym (seen-good a ps t)
+    pub shown-high : 4096 < w .next → Shows w n (emptySeen false)
+    shown-high h = λ a ps l k.
+        sym (seen-bad a ps (good-is ps ∙ ap (λ (b : Bool). leb (length ps) 256 && (climbs 0 ps && b)) (lt-leb (nextFrom 0 ps) 4096 (omega (arith, k few .above)))
+        ∙ ap (λ (b : Bool). leb (length ps) 256 && b) (and-false (climbs 0 ps)) ∙ and-false (leb (length ps) 256)))
+
+    pub shown-good : not (w .good) ≡ false → w .bytes < heavy → w .next ≤ 4096 → (place : Place) → place ≡ placeIn w n → Shows w n (record { good = true; count = n; bytes = w .bytes; place = place })
+    shown-good g b h place e = λ a ps l k.
+        let c : climbs 0 ps ≡ true = sym (k few .climbing) ∙ ap₂ _&&_ (not-false (w .good) g) (lt-ltb (w .bytes) heavy b) in
+        let t : good ps ≡ true = good-is ps ∙ ap₂ (λ (x y : Bool). x && (climbs 0 ps && y)) (le-leb (length ps) 256 (omega arith)) (le-leb (nextFrom 0 ps) 4096 (omega (arith, k few .above))) ∙ ap (λ (b : Bool). b && true) c in
+        ap (λ (x : Place). record { good = true; count = n; bytes = w .bytes; place = x }) e ∙ ap (shownBy w) (sym l) ∙ k few .shows c ∙ sym (seen-good a ps t)

@@ -39,9 +39,13 @@ unfoldable pub nextFrom : ℕ → List Port → ℕ
 nextFrom low [] = low
 nextFrom low (p ∷ ps) = nextFrom (p .address + 1) ps
 
--- so it stays with one record more
-abbrev pub follow : Walk → Port → Bool
-follow w p = w .good && (leb (w .next) (p .address) && ltb (p .«f_code») 5)
+-- more than the bytes of any good table: what an F_code above 4 weighs
+abbrev pub heavy : ℕ
+heavy = 65536
+
+-- addresses still rise with one record more
+abbrev pub follow : Walk → ℕ → Bool
+follow w address = w .good && leb (w .next) address
 
 -- the place that a walk of so many records found
 abbrev pub placeIn : Walk → ℕ → Place
@@ -55,9 +59,10 @@ shownBy w n = record { good = true; count = n; bytes = w .bytes; place = placeIn
 
 -- what a walk of these records keeps, for the address
 pub record Keeps (w : Walk) (a : ℕ) (ps : List Port) : Type 0 where
-  pub climbing : w .good ≡ climbs 0 ps
+  pub climbing : (w .good && ltb (w .bytes) heavy) ≡ climbs 0 ps
   pub above : w .next ≡ nextFrom 0 ps
-  pub small : w .bytes ≤ 32 * length ps
+  pub light : w .bytes < heavy → w .bytes ≤ 32 * length ps
+  pub most : w .bytes ≤ heavy * length ps
   pub earlier : w .found ≡ true → w .at < length ps
   pub shows : climbs 0 ps ≡ true → shownBy w (length ps) ≡ goodSeen a ps
 
@@ -65,9 +70,9 @@ pub record Keeps (w : Walk) (a : ℕ) (ps : List Port) : Type 0 where
 abbrev pub OnWalk : Walk → ℕ → ℕ → Type 0
 OnWalk w i a = (ps : List Port) × Keeps w a ps × (length ps ≡ i) × (i < 256)
 
--- whatever records it walked, with one more
-abbrev pub WalkedOn : Walk → ℕ → Port → ℕ → Walk → Type 0
-WalkedOn w i p a r = (ps : List Port) → Keeps w a ps → length ps ≡ i → Keeps r a (ps ++ p ∷ [])
+-- whatever records it walked, with one more of these fields
+abbrev pub WalkedOn : Walk → ℕ → ℕ → ℕ → ℕ → ℕ → Walk → Type 0
+WalkedOn w i address f s a r = (ps : List Port) (p : Port) → p ≡ record { address = address; «f_code» = f; sink = s } → Keeps w a ps → length ps ≡ i → Keeps r a (ps ++ p ∷ [])
 
 -- what the table shows whose records it walked, unless they are too many
 abbrev pub Shows : Walk → ℕ → Seen → Type 0

@@ -48,7 +48,14 @@ pub fn look(table: &[Port], address: u16) -> Seen
     let mut walk = records::none();
     let mut i: usize = 0;
     while i < count {
-        walk = records::step(walk, i, table[i], address);
+        walk = records::step(
+            walk,
+            i,
+            table[i].address,
+            table[i].f_code,
+            table[i].sink,
+            address,
+        );
         i += 1;
     }
     records::shown(walk, table.len())

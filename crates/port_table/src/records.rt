@@ -1,16 +1,15 @@
 // One record of the port table after another: what is known then, and what that shows.
 use crate::Place;
-use crate::Port;
 use crate::Seen;
 ghost use mathlib.Core.Path.{_≡_};
 ghost use mathlib.Core.Bool.{false};
 ghost use Prim.Native.Nat.{_<_, _≤_};
 ghost use Rattle.rows.specs.Rows.{dataBytes};
 ghost use Rattle.port_table.specs.Seen.{emptySeen};
-ghost use Rattle.port_table.specs.Inside.{noWalk, walkedOf, follow, placeIn, OnWalk, WalkedOn, Shows};
+ghost use Rattle.port_table.specs.Inside.{noWalk, walkedOf, heavy, follow, placeIn, OnWalk, WalkedOn, Shows};
 
-// What the walk keeps: whether the records so far are in order, one more than their last address, their bytes, and
-// whether one has the address, with its place, offset, size, F_code and direction.
+// What the walk keeps: whether the addresses so far rise, one more than the last, the bytes of the records, and whether
+// one has the address, with its place, offset, size, F_code and direction.
 pub(crate) struct Walk {
     good: bool,
     found: bool,
@@ -48,8 +47,9 @@ pub(crate) fn walked(records: usize) -> usize
 }
 
 // The data of a Process Data port, as the table of rows has it: an instruction less for each record than by its row.
+// Another F_code weighs more than any good table, so that the sum tells of it and no record is tested for it.
 fn data_bytes(f_code: u8) -> usize
-    ensures { λ r. ⌜ («f_code» < 5 → r ≡ dataBytes «f_code») × (r ≤ 32) ⌝ }
+    ensures { λ r. ⌜ («f_code» < 5 → (r ≡ dataBytes «f_code») × (r ≤ 32)) × (5 ≤ «f_code» → r ≡ heavy) ⌝ }
 {
     match f_code {
         0 => 2,
@@ -57,39 +57,36 @@ fn data_bytes(f_code: u8) -> usize
         2 => 8,
         3 => 16,
         4 => 32,
-        _ => 0,
+        _ => 65536,
     }
 }
 
-// Whether the records are in order with the next one.
-fn follows(walk: Walk, port: Port) -> bool
-    ensures { λ r. ⌜ r ≡ follow walk port ⌝ }
+// Whether the addresses rise with the next one.
+fn follows(walk: Walk, address: u16) -> bool
+    ensures { λ r. ⌜ r ≡ follow walk address ⌝ }
 {
     let good = walk.good;
     if !good {
         return false;
     }
-    if (port.address as u32) < walk.next {
-        return false;
-    }
-    port.f_code < 5
+    walk.next <= address as u32
 }
 
-// One record more. Its address and the wanted one are compared first: mostly they differ.
-pub(crate) fn step(walk: Walk, i: usize, port: Port, address: u16) -> Walk
-    requires { ⌜ OnWalk walk i address ⌝ }
-    ensures { λ r. ⌜ WalkedOn walk i port address r ⌝ }
+// One record more, by its fields: a record passed whole is loaded whole and taken apart by shifts.
+pub(crate) fn step(walk: Walk, i: usize, address: u16, f_code: u8, sink: u8, wanted: u16) -> Walk
+    requires { ⌜ OnWalk walk i wanted ⌝ }
+    ensures { λ r. ⌜ WalkedOn walk i address «f_code» sink wanted r ⌝ }
 {
-    let good = follows(walk, port);
-    let next = port.address as u32 + 1;
-    let size = data_bytes(port.f_code);
+    let good = follows(walk, address);
+    let next = address as u32 + 1;
+    let size = data_bytes(f_code);
     let bytes = walk.bytes + size;
-    if port.address == address {
+    if address == wanted {
         return Walk {
             good,
             found: true,
-            f_code: port.f_code,
-            sink: port.sink,
+            f_code,
+            sink,
             next,
             bytes,
             at: i,
@@ -159,6 +156,9 @@ pub(crate) fn shown(walk: Walk, count: usize) -> Seen
     }
     let good = walk.good;
     if !good {
+        return not_good();
+    }
+    if 65536 <= walk.bytes {
         return not_good();
     }
     if 4096 < walk.next {
