@@ -4,19 +4,19 @@ use mathlib.Core.Path.{_≡_, refl, sym, ap, ap₂, _∙_, subst}
 use mathlib.Core.Bool.{Bool, true, false, not}
 use mathlib.Core.List.{List, [], _∷_, _++_, map, append-assoc, append-nil}
 use mathlib.Core.Logic.{_⊎_, inl, inr, ⊎-elim}
-use Prim.Native.Nat.{ℕ, zero, suc, _+_, _*_, _≤_, _<_}
+use Prim.Native.Nat.{ℕ, zero, suc, _+_, _≤_}
 use native.Mathlib.Nat.{suc-inj}
 use native.Mathlib.Omega.{arith}
 use native.Mathlib.Decide.{decLe}
 use lib.Dec.{T}
-use lib.ListN.{length, replicate, length-append, length-replicate, length-map}
+use lib.ListN.{length, replicate, length-append, length-map}
 use Rattle.checks.specs.Bits.{bits, bitsOf, one}
 use Rattle.checks.specs.Check.{plus, add, divided, remainder, odd, plain, checkBits, checkOf}
 use Rattle.checks.specs.Distance.{differing}
 use Rattle.checks.proofs.Tests.{both, both-left, both-right, upto, at-upto}
 use Rattle.checks.proofs.Polynomials.{Same, nils, conss, same, same-length, same-append, add-append, add-self, length-add, divided-add, mix, length-remainder}
 use Rattle.checks.proofs.Numbers.{byte-number}
-use Rattle.checks.proofs.Parity.{odd-append, odd-add, length-plain}
+use Rattle.checks.proofs.Parity.{odd-add, length-plain}
 
 -- ---- the check bits are linear
 

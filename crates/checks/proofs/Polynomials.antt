@@ -1,13 +1,13 @@
 -- Sums of polynomials over two elements, and the division as a linear map.
 -- Assumes nothing.
-use mathlib.Core.Path.{_≡_, refl, sym, ap, ap₂, _∙_, subst}
-use mathlib.Core.Bool.{Bool, true, false, not}
+use mathlib.Core.Path.{_≡_, refl, sym, ap, ap₂, _∙_}
+use mathlib.Core.Bool.{Bool, true, false}
 use mathlib.Core.List.{List, [], _∷_, _++_, append-assoc}
 use Prim.Native.Nat.{ℕ, zero, suc, _+_, _≤_}
 use native.Mathlib.Nat.{suc-inj}
 use native.Mathlib.Omega.{arith}
 use lib.ListN.{length, replicate, length-append, length-replicate, replicate-append-replicate}
-use Rattle.checks.specs.Check.{plus, add, divisor, less, divided, remainder, odd, plain}
+use Rattle.checks.specs.Check.{plus, add, divisor, less, divided, remainder}
 
 pub plus-comm : (a b : Bool) → plus a b ≡ plus b a
 plus-comm true true = refl

@@ -6,7 +6,7 @@ use mathlib.Core.List.{List, [], _∷_, _++_, map, append-assoc, append-nil}
 use Prim.Native.Nat.{ℕ, zero, suc, _+_, _-_, _*_, _/_, _%_, _^_, _≤_, _<_}
 use native.Mathlib.Nat.{pow-succ'}
 use native.Mathlib.Omega.{arith}
-use lib.Bits.{bitXor, xor-lt, xor-block, xor-zero-r, xor-comm}
+use lib.Bits.{bitXor, xor-lt, xor-block, xor-zero-r}
 use lib.ListN.{length, replicate, length-append, length-replicate}
 use Rattle.checks.specs.Bits.{bits, bitsOf, one, number}
 use Rattle.checks.specs.Check.{plus, add, divided, remainder, odd, plain, checkBits, checkOf}

@@ -4,14 +4,14 @@ use mathlib.Core.Path.{_≡_, refl, sym, ap, ap₂, _∙_, subst}
 use mathlib.Core.Bool.{Bool, true, false}
 use mathlib.Core.List.{List, [], _∷_, _++_}
 use Prim.Native.Nat.{ℕ, zero, suc, _+_, _-_, _*_, _/_, _%_, _^_, _≤_, _<_}
-use native.Mathlib.Nat.{suc-add, suc-inj, zero-add, mod-lt, le-trans, lt-of-le-of-lt}
+use native.Mathlib.Nat.{suc-add, suc-inj, zero-add, mod-lt, lt-of-le-of-lt}
 use native.Mathlib.Omega.{arith}
 use lib.Dec.{T, eqb}
 use lib.Bits.{bitXor, xor-lt}
 use lib.Pow.{pow-pos, shl-shr, shr-shr, shr-lt, shr-le}
 use lib.ListN.{length, take, drop, replicate, length-append, length-drop, length-replicate}
 use lib.Seq.{take-at, drop-at, length-take-le}
-use Rattle.checks.specs.Bits.{bits, number}
+use Rattle.checks.specs.Bits.{bits}
 use Rattle.checks.specs.Check.{plus, add}
 use Rattle.checks.proofs.Polynomials.{Same, nils, conss, same, same-self, add-assoc, add-swap, add-append, length-add, zeros-add}
 use Rattle.checks.proofs.Numbers.{length-bits, bits-xor, bits-mod}

@@ -1,13 +1,12 @@
 -- What the line answers, by the bytes that came: none, the written frame of a word, anything else.
 -- Assumes nothing.
-use mathlib.Core.Path.{_≡_, refl, ap, ap₂, _∙_}
+use mathlib.Core.Path.{_≡_, refl, ap₂}
 use mathlib.Core.Bool.{true, false, _&&_}
 use mathlib.Core.List.{List, []}
 use Prim.Native.Nat.{ℕ}
 use native.Mathlib.Omega.{arith}
 use borrow.Author.Tests.{eq-eqb, ne-eqb}
 use lib.ListN.{length}
-use Rattle.frames.specs.Words.{wordIn}
 use Rattle.frames.specs.Blocks.{rightBlocks}
 use Rattle.frames.specs.Master.{masterFrame}
 use Rattle.frames.specs.Line.{rightFrame, answerOf}

@@ -1,18 +1,17 @@
 -- The orders of checks, way out by way out: what each answers, and what the output holds then.
 -- Assumes nothing.
-use mathlib.Core.Path.{_≡_, refl, sym, ap, ap₂, _∙_, subst}
-use mathlib.Core.Bool.{Bool, true, false, not, cond, _&&_}
+use mathlib.Core.Path.{_≡_, sym, ap, ap₂, _∙_}
+use mathlib.Core.Bool.{Bool, true, false, not}
 use mathlib.Core.List.{List, [], _∷_, _++_}
 use Prim.Native.Nat.{ℕ, _+_, _*_, _≤_, _<_}
 use native.Mathlib.Omega.{arith}
 use borrow.Author.Tests.{eq-eqb, ne-eqb, lt-ltb, le-ltb, not-true, not-false}
-use lib.Dec.{eqb}
 use lib.ListN.{length, drop}
-use Rattle.refusals.specs.Told.{Told, gives, refusal}
+use Rattle.refusals.specs.Told.{gives, refusal}
 use Rattle.frames.specs.Words.{fCode, wordIn, wordBytes}
 use Rattle.rows.specs.Rows.{reserved, dataBytes, blocks, blockBytes, frameBytes}
 use Rattle.frames.specs.Blocks.{rightBlocks, dataIn, framed}
-use Rattle.frames.specs.Master.{masterFrame, masterRead, masterWriteBy, masterWrite, masterWriteOut}
+use Rattle.frames.specs.Master.{masterFrame, masterRead, masterWrite, masterWriteOut}
 use Rattle.frames.specs.Slave.{slaveFrame, slaveData, slaveReadBy, slaveRead, slaveReadOut, slaveWriteBy, slaveWrite, slaveWriteOut}
 use Rattle.frames.specs.Answers.{toldLine}
 use Rattle.frames.specs.Line.{answerOf, lineAnswer}

@@ -1,24 +1,24 @@
 -- What is written is read back, and what is accepted is what would have been written (demand 2), for Slave and Master Frames.
 -- Assumes nothing.
-use mathlib.Core.Path.{_≡_, refl, sym, ap, ap₂, _∙_, subst}
-use mathlib.Core.Bool.{Bool, true, false, cond, _&&_, and-eq-true-iff}
-use mathlib.Core.List.{List, [], _∷_, _++_, append-nil}
-use Prim.Native.Nat.{ℕ, zero, suc, _+_, _-_, _*_, _/_, _%_, _≤_, _<_}
-use native.Mathlib.Nat.{suc-mul, suc-inj, le-of-eq}
+use mathlib.Core.Path.{_≡_, refl, sym, ap, ap₂, _∙_}
+use mathlib.Core.Bool.{Bool, true, false, cond, and-eq-true-iff}
+use mathlib.Core.List.{List, [], _∷_, _++_}
+use Prim.Native.Nat.{ℕ, zero, suc, _+_, _-_, _*_, _≤_, _<_}
+use native.Mathlib.Nat.{suc-mul, suc-inj}
 use native.Mathlib.Numerals.{add-one}
 use native.Mathlib.Omega.{arith}
 use borrow.Author.Tests.{eq-eqb, eqb-true, not-false, ltb-true, ltb-false, le-ltb}
 use lib.Dec.{eqb, ltb}
 use lib.Pow.{areBytes}
 use lib.ListN.{length, getD, take, drop, length-append, length-drop, take-append-drop}
-use lib.Seq.{take-at, drop-at, getD-at, drop-drop, length-take-le, split-at, take-length}
+use lib.Seq.{take-at, drop-at, getD-at, drop-drop, length-take-le, split-at}
 use Rattle.checks.specs.Check.{checkOf}
-use Rattle.refusals.specs.Told.{Told, gives, refused, refusal}
+use Rattle.refusals.specs.Told.{Told, gives, refusal}
 use Rattle.frames.specs.Words.{fCode, wordIn, wordBytes}
 use Rattle.rows.specs.Rows.{reserved, dataBytes, blocks, blockBytes, frameBytes}
 use Rattle.frames.specs.Blocks.{framed, dataIn, rightBlocks}
-use Rattle.frames.specs.Master.{masterFrame, masterRead, masterWriteBy, masterWrite, masterWriteOut}
-use Rattle.frames.specs.Slave.{slaveFrame, slaveData, slaveReadBy, slaveRead, slaveReadOut, slaveWriteBy, slaveWrite, slaveWriteOut}
+use Rattle.frames.specs.Master.{masterFrame, masterRead, masterWrite, masterWriteOut}
+use Rattle.frames.specs.Slave.{slaveFrame, slaveData, slaveRead, slaveReadOut, slaveWrite, slaveWriteOut}
 use Rattle.rows.proofs.Rows.{full, whole}
 use Rattle.frames.proofs.Order.{read-done, write-done}
 

@@ -1,7 +1,6 @@
 // Words taken apart, and how the data of an F_code lies in a Slave Frame.
 ghost use mathlib.Core.Path.{_≡_};
 ghost use mathlib.Core.Bool.{not};
-ghost use mathlib.Core.List.{[], _∷_};
 ghost use Prim.Native.Nat.{_+_, _*_};
 ghost use Rattle.frames.specs.Words.{fCode};
 ghost use Rattle.rows.specs.Rows.{reserved, dataBytes, blocks, blockBytes, frameBytes};

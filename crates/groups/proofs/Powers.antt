@@ -1,7 +1,7 @@
 -- Powers of two, as groups have them.
 -- Assumes nothing.
 use mathlib.Core.Path.{_≡_, ap, _∙_, subst}
-use Prim.Native.Nat.{ℕ, suc, _+_, _-_, _/_, _^_, _≤_, _<_}
+use Prim.Native.Nat.{ℕ, suc, _+_, _-_, _/_, _^_, _≤_}
 use native.Mathlib.Omega.{arith}
 use lib.Pow.{pow-mono, pow-add, shl-shr}
 

@@ -1,6 +1,6 @@
 -- A list file is accepted exactly when some list that obeys the rules is written so; there is only one such list, and it is the one that is read.
 -- Assumes nothing.
-use Prim.Native.Nat.{ℕ, zero, suc, _+_, _-_, _*_, _^_, _≤_, _<_}
+use Prim.Native.Nat.{ℕ, suc, _+_, _-_, _*_, _≤_, _<_}
 use mathlib.Core.Path.{_≡_, refl, ap, sym, _∙_, subst}
 use mathlib.Core.List.{List, [], _∷_, _++_, append-nil}
 use mathlib.Core.Bool.{true, false, not}
@@ -8,15 +8,15 @@ use native.Mathlib.Omega.{arith}
 use borrow.Author.Tests.{le-leb, leb-true, le-ltb, ltb-false, not-true}
 use lib.Dec.{ltb, leb}
 use lib.ListN.{length}
-use Rattle.numbers.specs.Written.{bytesOf, written, Bytes, Most}
+use Rattle.numbers.specs.Written.{written, Bytes, Most}
 use Rattle.lists.specs.declared.Header.{Header}
 use Rattle.lists.specs.Values.{Cycle, PeriodicList, cyclesOf, periodsOf, wordsOf}
-use Rattle.lists.specs.Rules.{Check, right, wrong, unless, also, rules}
-use Rattle.lists.specs.Reading.{Read, denied, took, then, when, headerIn, cyclesIn, listIn}
+use Rattle.lists.specs.Rules.{right, unless, also, rules}
+use Rattle.lists.specs.Reading.{took, then, headerIn, cyclesIn, listIn}
 use Rattle.lists.specs.Sends.{sends, takes, overfull, crowded}
 use Rattle.lists.specs.Accepts.{none, ending, ended, accepted}
 use Rattle.lists.specs.Inside.{GoodHead}
-use Rattle.list_laws.specs.Written.{cyclesNumbers, file, All, Listable, CycleObeys, CyclesObey, Obeys}
+use Rattle.list_laws.specs.Written.{cyclesNumbers, file, All, Listable, CyclesObey, Obeys}
 use Rattle.lists.proofs.LoadLaws.{some-none, some-false}
 use Rattle.lists.proofs.ListLaws.{good-head}
 use Rattle.lists.proofs.ThenLaws.{then-yes, when-yes, unless-right, also-right, yes-value, yes-rest}

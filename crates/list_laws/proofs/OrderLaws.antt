@@ -2,8 +2,8 @@
 -- Assumes nothing.
 use Prim.Native.Nat.{ℕ, zero, suc, _+_, _-_, _*_, _^_, _≤_, _<_}
 use mathlib.Core.Path.{_≡_, refl, ap, sym, _∙_, subst}
-use mathlib.Core.List.{List, [], _∷_, _++_, append-assoc}
-use mathlib.Core.Bool.{Bool, true, false, cond, _&&_}
+use mathlib.Core.List.{List, [], _∷_, _++_}
+use mathlib.Core.Bool.{Bool, true, false, cond}
 use native.Mathlib.Omega.{arith}
 use borrow.Author.Tests.{le-leb, lt-leb, eq-eqb, ne-eqb}
 use lib.Dec.{leb, eqb}
@@ -11,8 +11,8 @@ use lib.ListN.{length, drop, length-append}
 use lib.Pow.{pow-pos}
 use Rattle.numbers.specs.Number.{Taken, bad, taken, number}
 use Rattle.lists.specs.declared.Header.{Header}
-use Rattle.lists.specs.Values.{Cycle, PeriodicList, cyclesOf, byMs, wordsOf}
-use Rattle.lists.specs.Rules.{Check, right, wrong, unless, also, wordRule, splitRule, rules}
+use Rattle.lists.specs.Values.{Cycle, PeriodicList, cyclesOf, wordsOf}
+use Rattle.lists.specs.Rules.{Check, right, wrong, also, wordRule, splitRule, rules}
 use Rattle.lists.specs.Reading.{Read, denied, took, then, when, orFive, numberIn, within, afterMs, headerIn, wordsIn, splitsIn, summedIn, splitIn, bodyIn, cycleIn, cyclesIn, listIn}
 use Rattle.lists.specs.Accepts.{ending, ended, accepted}
 use Rattle.list_laws.specs.Order.{Want, one, ms, gap, reserve, count, word, split, Due, want, over, afterCycles, splitsDue, afterWords, wordsDue, range, check, next, Refuses, unreadable, fails, later, at-end}

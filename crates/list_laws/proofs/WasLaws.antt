@@ -1,21 +1,21 @@
 -- What is read is what would have been written, and what is written is read back: from numbers up to cycles.
 -- Assumes nothing.
-use Prim.Native.Nat.{ℕ, zero, suc, _+_, _-_, _*_, _^_, _/_, _%_, _≤_, _<_}
+use Prim.Native.Nat.{ℕ, zero, suc, _+_, _-_, _*_, _^_, _/_, _≤_}
 use mathlib.Core.Path.{_≡_, refl, ap, sym, _∙_, subst}
 use mathlib.Core.List.{List, [], _∷_, _++_, append-assoc, append-nil}
-use mathlib.Core.Bool.{Bool, true, false, not, _&&_, _||_}
+use mathlib.Core.Bool.{Bool, true, false, not, _||_}
 use native.Mathlib.Omega.{arith}
-use borrow.Author.Tests.{le-leb, eqb-true, eq-eqb, ltb-true, not-true, not-false}
-use lib.Dec.{ltb, leb, eqb}
-use lib.ListN.{length, drop, length-append}
+use borrow.Author.Tests.{le-leb, eqb-true, eq-eqb, ltb-true, not-true}
+use lib.Dec.{ltb, eqb}
+use lib.ListN.{length, drop}
 use lib.Seq.{drop-append-seam}
 use Rattle.numbers.specs.Number.{Taken, bad, taken, number, sum}
 use Rattle.numbers.specs.Written.{bytesOf, written, Bytes}
 use Rattle.numbers.proofs.WrittenLaws.{was, read-back, written-append, bytes-drop}
 use Rattle.lists.specs.declared.Header.{Header}
-use Rattle.lists.specs.Values.{Cycle, PeriodicList, cyclesOf, wordsOf}
-use Rattle.lists.specs.Rules.{Check, right, wrong, unless, also, processData, listable, clashes, wordRule, splitRule, rules}
-use Rattle.lists.specs.Reading.{Read, denied, took, then, when, orFive, numberIn, within, afterMs, headerIn, wordsIn, splitsIn, summedIn, splitIn, bodyIn, cycleIn, cyclesIn}
+use Rattle.lists.specs.Values.{Cycle, wordsOf}
+use Rattle.lists.specs.Rules.{right, unless, listable, clashes, wordRule, splitRule, rules}
+use Rattle.lists.specs.Reading.{Read, took, then, when, orFive, numberIn, within, afterMs, headerIn, wordsIn, splitsIn, summedIn, splitIn, bodyIn, cycleIn, cyclesIn}
 use Rattle.lists.specs.Inside.{GoodHead}
 use Rattle.list_laws.specs.Written.{cycleNumbers, cyclesNumbers, All, Split}
 use Rattle.lists.proofs.HeadLaws.{in-range}

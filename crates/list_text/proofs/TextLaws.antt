@@ -10,7 +10,7 @@ use lib.Dec.{leb}
 use lib.ListN.{length, drop, length-append}
 use Rattle.refusals.specs.declared.Refusal.{Refusal}
 use Rattle.refusals.specs.Refusals.{numberOf}
-use Rattle.refusals.specs.Told.{Told, gives, refusing, refusal}
+use Rattle.refusals.specs.Told.{Told, gives, refusal}
 use Rattle.numbers.specs.Written.{Bytes}
 use Rattle.lists.specs.declared.Header.{Header}
 use Rattle.lists.specs.declared.ListCheck.{ListCheck}

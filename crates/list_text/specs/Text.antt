@@ -1,8 +1,8 @@
 -- The list program's text (document 01, "Lines to check by hand"), as bytes.
 -- Assumes nothing.
-use Prim.Native.Nat.{ℕ, zero, suc, _+_, _-_, _^_, _/_, _%_}
+use Prim.Native.Nat.{ℕ, suc, _+_, _^_, _/_, _%_}
 use mathlib.Core.List.{List, [], _∷_, _++_}
-use mathlib.Core.Bool.{Bool, true, false, cond}
+use mathlib.Core.Bool.{cond}
 use lib.Dec.{ltb, leb}
 use lib.ListN.{length}
 use Rattle.refusals.specs.Told.{Told, gives, refusing}

@@ -1,9 +1,9 @@
 // Bytes and numerals, written at a place: the answer is the place after them.
 ghost use mathlib.Core.Path.{_≡_};
-ghost use mathlib.Core.List.{List, [], _∷_, _++_};
-ghost use Prim.Native.Nat.{ℕ, _+_, _≤_, _<_};
+ghost use mathlib.Core.List.{[], _∷_, _++_};
+ghost use Prim.Native.Nat.{_+_, _<_};
 ghost use lib.ListN.{length};
-ghost use Rattle.list_text.specs.Text.{digit, two, decimal, hex, space, newline, headerLine, wordLine, refusedLine};
+ghost use Rattle.list_text.specs.Text.{digit, two, decimal, hex, headerLine, wordLine, refusedLine};
 ghost use Rattle.list_text.specs.Inside.{Fits, Wrote};
 
 fn digit_of(d: u16) -> u8

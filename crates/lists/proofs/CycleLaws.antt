@@ -1,20 +1,19 @@
 -- A cycle: its words, then its split numbers.
 -- Assumes nothing.
-use Prim.Native.Nat.{ℕ, zero, suc, _+_, _-_, _*_, _^_, _%_, _≤_, _<_}
-use mathlib.Core.Path.{_≡_, refl, ap, sym, _∙_, subst}
-use mathlib.Core.List.{List, [], _∷_, _++_}
+use Prim.Native.Nat.{ℕ, _-_, _^_, _≤_}
+use mathlib.Core.Path.{_≡_, sym, _∙_, subst}
+use mathlib.Core.List.{List, []}
 use native.Mathlib.Omega.{arith}
 use lib.ListN.{length, drop}
 use Rattle.refusals.specs.declared.Refusal.{Refusal}
 use Rattle.refusals.specs.Refusals.{numberOf}
 use Rattle.lists.specs.declared.Part.{Part}
 use Rattle.lists.specs.declared.Part.the-variants.{Done, Refused}
-use Rattle.lists.specs.Values.{Cycle}
 use Rattle.lists.specs.Rules.{rules}
 use Rattle.lists.specs.Reading.{Read, denied, took, then, within, wordsIn, splitIn, bodyIn, cycleIn}
-use Rattle.lists.specs.Inside.{Tells, SeenIs, Marked, Weights, Sums, Rising, Added, CycleDone}
+use Rattle.lists.specs.Inside.{Tells, SeenIs, Marked, Weights, Rising, CycleDone}
 use Rattle.lists.proofs.HeadLaws.{in-range}
-use Rattle.lists.proofs.WordLaws.{Words, tells-no, tells-yes, told-no, told-yes}
+use Rattle.lists.proofs.WordLaws.{Words, tells-no, told-no, told-yes}
 use Rattle.lists.proofs.SplitLaws.{Split, sums-rise}
 
 -- a reading that only names what was read tells the same

@@ -1,8 +1,8 @@
 -- The loop of `read_cycles`: what is left to read is what there was to read, and each Basic Period's place holds what it sends weighs.
 -- Assumes nothing.
-use Prim.Native.Nat.{ℕ, zero, suc, _+_, _-_, _*_, _^_, _%_, _≤_, _<_}
+use Prim.Native.Nat.{ℕ, suc, _+_, _-_, _*_, _^_, _%_, _≤_, _<_}
 use mathlib.Core.Path.{_≡_, refl, ap, sym, _∙_, subst}
-use mathlib.Core.List.{List, [], _∷_, _++_, append-nil}
+use mathlib.Core.List.{List, [], _∷_, _++_}
 use native.Mathlib.Nat.{sub-zero, mod-eq-of-lt, mod-lt}
 use native.Mathlib.Numerals.{add-one}
 use native.Mathlib.Omega.{arith}
@@ -15,9 +15,9 @@ use Rattle.lists.specs.declared.Part.{Part}
 use Rattle.lists.specs.declared.Part.the-variants.{Done, Refused}
 use Rattle.lists.specs.Values.{Cycle, wordsOf}
 use Rattle.lists.specs.Rules.{rules}
-use Rattle.lists.specs.Reading.{Read, denied, took, then, cycleIn, cyclesIn}
+use Rattle.lists.specs.Reading.{denied, took, then, cycleIn, cyclesIn}
 use Rattle.lists.specs.Sends.{subcycle, sentFrom}
-use Rattle.lists.specs.Inside.{Tells, SeenIs, Marked, Weights, Most, weigh, CycleDone, Loaded}
+use Rattle.lists.specs.Inside.{Tells, SeenIs, Weights, Most, weigh, CycleDone, Loaded}
 use Rattle.lists.proofs.WordLaws.{tells-no, tells-yes, told-no, told-yes, weigh-append}
 use Rattle.lists.proofs.SplitLaws.{weigh-few}
 use Rattle.lists.proofs.SentLaws.{CyclesFew, words-snoc, few-snoc, sent-mod, sent-snoc, sent-few}

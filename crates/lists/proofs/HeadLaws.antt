@@ -9,14 +9,11 @@ use borrow.Author.Tests.{le-leb, lt-leb, leb-true}
 use lib.Dec.{leb}
 use lib.ListN.{drop}
 use lib.Seq.{drop-drop}
-use Rattle.refusals.specs.declared.Refusal.{Refusal}
-use Rattle.refusals.specs.Refusals.{numberOf}
 use Rattle.numbers.specs.declared.Number.{Number}
 use Rattle.numbers.specs.declared.Number.the-variants.{Value, Refused}
-use Rattle.numbers.specs.Number.{Taken, bad, taken, number, numberAt}
+use Rattle.numbers.specs.Number.{numberAt}
 use Rattle.numbers.specs.Answers.{toldNumber}
 use Rattle.numbers.proofs.Answers.{got, none}
-use Rattle.lists.specs.declared.Header.{Header}
 use Rattle.lists.specs.Rules.{unless}
 use Rattle.lists.specs.Reading.{Read, denied, took, then, when, orFive, numberIn, within, afterMs, headerIn}
 use Rattle.lists.specs.Inside.{readOf}

@@ -3,33 +3,30 @@
 use Prim.Native.Nat.{ℕ, zero, suc, _+_, _-_, _*_, _^_, _/_, _%_, _≤_, _<_}
 use mathlib.Core.Path.{_≡_, refl, ap, sym, _∙_, subst}
 use mathlib.Core.List.{List, [], _∷_, _++_}
-use mathlib.Core.Bool.{Bool, true, false, not, _||_}
+use mathlib.Core.Bool.{Bool, true, false}
 use native.Mathlib.Nat.{zero-div}
 use native.Mathlib.Omega.{arith}
-use borrow.Author.Tests.{lt-ltb, le-ltb, ltb-true, ltb-false, eq-eqb, ne-eqb, le-leb, lt-leb, eqb-true}
-use lib.Dec.{ltb, leb, eqb}
-use lib.ListN.{length, getD, take, drop, length-append, length-drop, length-replicate, replicate, getD-replicate, drop-of-length-le}
+use borrow.Author.Tests.{lt-ltb, le-ltb, ltb-true, ltb-false, le-leb, lt-leb}
+use lib.Dec.{ltb, eqb}
+use lib.ListN.{length, getD, take, drop, length-append, length-replicate, replicate, getD-replicate, drop-of-length-le}
 use lib.Pow.{pow-pos}
 use lib.Seq.{drop-cons, getD-take, length-take-le, take-at}
 use Rattle.refusals.specs.declared.Refusal.{Refusal}
 use Rattle.refusals.specs.Refusals.{numberOf}
-use Rattle.refusals.specs.Told.{Told, gives, refusing, refusal}
-use Rattle.timing.specs.Timing.{telegramBits}
+use Rattle.refusals.specs.Told.{gives, refusing, refusal}
 use Rattle.lists.specs.declared.Header.{Header}
-use Rattle.lists.specs.declared.HeadRead.{HeadRead}
-use Rattle.lists.specs.declared.HeadRead.the-variants.{Head, Refused as Refused-head}
 use Rattle.lists.specs.declared.Part.{Part}
 use Rattle.lists.specs.declared.Part.the-variants.{Done, Refused as Refused-part}
 use Rattle.lists.specs.declared.ListCheck.{ListCheck}
-use Rattle.lists.specs.declared.ListCheck.the-variants.{Accepted, Refused}
+use Rattle.lists.specs.declared.ListCheck.the-variants.{Accepted}
 use Rattle.lists.specs.Values.{Cycle, PeriodicList, cyclesOf, periodsOf, byMs, wordsOf}
 use Rattle.frames.specs.Words.{fCode}
-use Rattle.lists.specs.Rules.{Check, right, wrong, unless, also, listable, rules}
-use Rattle.lists.specs.Reading.{Read, denied, took, then, when, within, afterMs, headerIn, cyclesIn, listIn}
+use Rattle.lists.specs.Rules.{rules}
+use Rattle.lists.specs.Reading.{Read, denied, took, then, within, afterMs, headerIn, cyclesIn, listIn}
 use Rattle.lists.specs.Sends.{cutBy, subcycles, subcycle, sentFrom, sends, takes, some, overfull, crowded}
 use Rattle.lists.specs.Accepts.{none, ending, ended, accepted, afterHeader}
 use Rattle.lists.specs.Answers.{toldCheck, toldRead}
-use Rattle.lists.specs.Inside.{headOf, Tells, SeenIs, bit, AllListable, weigh, WeightsOf, Loaded, GoodHead}
+use Rattle.lists.specs.Inside.{Tells, SeenIs, bit, AllListable, weigh, WeightsOf, Loaded, GoodHead}
 use Rattle.lists.proofs.HeadLaws.{in-range}
 use Rattle.lists.proofs.LoadLaws.{some-none, some-false}
 use Rattle.lists.proofs.TelegramLaws.{telegram-range}

@@ -1,16 +1,16 @@
 -- The weights of a gap, and a test that some Basic Period passes.
 -- Assumes nothing.
 use Prim.Native.Nat.{ℕ, zero, suc, _+_, _≤_, _<_}
-use mathlib.Core.Path.{_≡_, refl, ap, sym, _∙_, subst}
+use mathlib.Core.Path.{_≡_, refl, subst}
 use mathlib.Core.List.{List, [], _∷_}
 use mathlib.Core.Bool.{Bool, true, false, _||_}
 use mathlib.Core.Logic.{⊎-elim}
 use native.Mathlib.Nat.{eq-or-lt-of-le, le-of-suc-le-suc}
 use native.Mathlib.Omega.{arith}
-use lib.ListN.{length, getD}
+use lib.ListN.{getD}
 use Rattle.timing.specs.Timing.{telegramBits}
 use Rattle.lists.specs.Sends.{some}
-use Rattle.lists.specs.Inside.{Weights, WeightsOf}
+use Rattle.lists.specs.Inside.{WeightsOf}
 use Rattle.lists.proofs.TelegramLaws.{by-fcode}
 
 or-none : (a b : Bool) → a ≡ false → b ≡ false → (a || b) ≡ false

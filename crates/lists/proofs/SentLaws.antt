@@ -1,10 +1,10 @@
 -- What some cycles send in a Basic Period: it repeats, a cycle more adds its Subcycle, and there is not too much of it.
 -- Assumes nothing.
-use Prim.Native.Nat.{ℕ, zero, suc, _+_, _-_, _*_, _^_, _/_, _%_, _≤_, _<_}
-use mathlib.Core.Path.{_≡_, refl, ap, sym, _∙_, subst}
+use Prim.Native.Nat.{ℕ, zero, suc, _+_, _-_, _*_, _^_, _%_, _≤_}
+use mathlib.Core.Path.{_≡_, refl, ap, sym, _∙_}
 use mathlib.Core.List.{List, [], _∷_, _++_, append-assoc, append-nil}
 use native.Mathlib.Omega.{arith}
-use lib.ListN.{length, getD, take, drop, length-append, length-take, length-drop}
+use lib.ListN.{length, getD, drop, length-append, length-take, length-drop}
 use lib.Pow.{mod-mod-pow}
 use Rattle.lists.specs.Values.{Cycle, wordsOf}
 use Rattle.lists.specs.Sends.{cutBy, subcycles, subcycle, sentFrom}

@@ -14,18 +14,15 @@ use lib.Pow.{pow-lt, pow-pos}
 use lib.Seq.{getD-set-same, getD-set-other, set-getD, getD-at, take-add, take-all, drop-drop}
 use Rattle.refusals.specs.declared.Refusal.{Refusal}
 use Rattle.refusals.specs.Refusals.{numberOf}
-use Rattle.numbers.specs.declared.Number.{Number}
-use Rattle.numbers.specs.declared.Number.the-variants.{Value, Refused}
 use Rattle.lists.specs.declared.Part.{Part}
 use Rattle.lists.specs.declared.Part.the-variants.{Done, Refused as Refused-part}
 use Rattle.numbers.specs.Number.{sum}
-use Rattle.lists.specs.Values.{Cycle}
-use Rattle.lists.specs.Rules.{splitRule, rules}
-use Rattle.lists.specs.Reading.{Read, denied, took, then, when, within, splitsIn, summedIn, splitIn}
-use Rattle.lists.specs.Sends.{cutBy, subcycles, subcycle}
-use Rattle.lists.specs.Inside.{readOf, Tells, weigh, Weights, Sums, Rising, Most, weighed, Weighable, Cut, Added}
+use Rattle.lists.specs.Rules.{rules}
+use Rattle.lists.specs.Reading.{Read, denied, took, then, within, splitsIn, summedIn, splitIn}
+use Rattle.lists.specs.Sends.{cutBy, subcycle}
+use Rattle.lists.specs.Inside.{Tells, weigh, Weights, Sums, Rising, Most, weighed, Weighable, Cut, Added}
 use Rattle.lists.proofs.HeadLaws.{in-range}
-use Rattle.lists.proofs.WordLaws.{tells-no, tells-yes, told-no, told-yes, weigh-append}
+use Rattle.lists.proofs.WordLaws.{tells-no, tells-yes, weigh-append}
 
 -- a Subcycle with no words
 pub none-added : (sums : List ℕ) (count done more : ℕ) (load : List ℕ) (i : ℕ) → more ≡ 0 → load ≡ set load i (weighed sums count done more (getD load i 0))

@@ -2,13 +2,13 @@
 -- Assumes nothing.
 use Prim.Native.Nat.{ℕ, zero, suc, _+_, _≤_, _<_}
 use mathlib.Core.Path.{_≡_, refl, ap, sym, _∙_, subst}
-use mathlib.Core.List.{List, [], _∷_}
+use mathlib.Core.List.{[], _∷_}
 use mathlib.Core.Bool.{Bool, true, false, _||_}
 use native.Mathlib.Omega.{arith}
 use borrow.Author.Tests.{ltb-true, eqb-true, le-leb}
 use lib.Dec.{ltb, eqb}
 use Rattle.refusals.specs.declared.Refusal.{Refusal}
-use Rattle.refusals.specs.Told.{Told, gives, refusing}
+use Rattle.refusals.specs.Told.{gives, refusing}
 use Rattle.refusals.proofs.Apart.{never-both}
 use Rattle.rows.specs.Rows.{reserved, dataBits, dataBytes, blocks, frameBytes, lineBits}
 use Rattle.timing.specs.Timing.{telegramBits, telegramAnswer}

@@ -1,15 +1,14 @@
 -- A listed word, and the words of a cycle: what is left to read, from where the loop stands, is what there was to read.
 -- Assumes nothing.
-use Prim.Native.Nat.{ℕ, zero, suc, _+_, _-_, _*_, _/_, _≤_, _<_}
+use Prim.Native.Nat.{ℕ, suc, _+_, _-_, _*_, _≤_, _<_}
 use mathlib.Core.Path.{_≡_, refl, ap, sym, _∙_, subst}
 use mathlib.Core.List.{List, [], _∷_, _++_, append-assoc, append-nil}
-use mathlib.Core.Bool.{Bool, true, false, not}
+use mathlib.Core.Bool.{true, false}
 use native.Mathlib.Nat.{sub-zero}
-use native.Mathlib.Numerals.{add-one}
 use native.Mathlib.Omega.{arith}
 use borrow.Author.Count.{below-more}
 use lib.ListN.{length, getD, take, drop, set, length-set, length-append}
-use lib.Seq.{getD-set-same, getD-set-other, take-append-le, take-length, take-all}
+use lib.Seq.{getD-set-same, getD-set-other, take-append-le, take-all}
 use Rattle.refusals.specs.declared.Refusal.{Refusal}
 use Rattle.refusals.specs.Refusals.{numberOf}
 use Rattle.numbers.specs.declared.Number.{Number}
@@ -17,9 +16,9 @@ use Rattle.numbers.specs.declared.Number.the-variants.{Value, Refused}
 use Rattle.lists.specs.declared.Part.{Part}
 use Rattle.lists.specs.declared.Part.the-variants.{Done, Refused as Refused-part}
 use Rattle.frames.specs.Words.{fCode}
-use Rattle.lists.specs.Rules.{Check, right, wrong, unless, also, listable, clashes, wordRule, rules}
+use Rattle.lists.specs.Rules.{Check, right, wrong, listable, clashes, wordRule, rules}
 use Rattle.lists.specs.Reading.{Read, denied, took, then, when, numberIn, wordsIn}
-use Rattle.lists.specs.Inside.{readOf, Tells, SeenIs, WordTold, weigh, Weights, Sums}
+use Rattle.lists.specs.Inside.{Tells, SeenIs, WordTold, weigh, Weights, Sums}
 
 -- ---- a word
 module _ (s : List ℕ) (at : ℕ) (before seen : List ℕ) where

@@ -1,12 +1,10 @@
 -- What the answers tell.
 -- Assumes nothing.
-use mathlib.Core.List.{List, [], _∷_}
-use Prim.Native.Nat.{ℕ}
+use mathlib.Core.List.{[], _∷_}
 use lib.ListN.{length}
 use Rattle.refusals.specs.Told.{Told, gives, refusing, refusal}
 use Rattle.lists.specs.Values.{PeriodicList, wordsOf}
 use Rattle.lists.specs.Reading.{Read, denied, took}
-use Rattle.lists.specs.declared.Header.{Header}
 use Rattle.lists.specs.declared.ListCheck.{ListCheck}
 use Rattle.lists.specs.declared.ListCheck.the-variants.{Accepted, Refused}
 

@@ -4,7 +4,7 @@ use crate::head::read_within;
 use numbers::Number;
 use refusals::Refusal;
 ghost use mathlib.Core.Path.{_≡_};
-ghost use mathlib.Core.List.{List, []};
+ghost use mathlib.Core.List.{List};
 ghost use Prim.Native.Nat.{ℕ, _+_, _^_, _≤_, min};
 ghost use lib.ListN.{length, getD, drop, set};
 ghost use Rattle.lists.specs.Rules.{rules};

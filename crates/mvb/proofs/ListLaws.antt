@@ -1,6 +1,6 @@
 -- Answers of the list's calls, taken apart for C: each value is below 65,536.
 -- Assumes nothing.
-use mathlib.Core.Path.{_≡_, refl, sym, ap, _∙_}
+use mathlib.Core.Path.{_≡_, refl, sym, ap}
 use mathlib.Core.Bool.{Bool, true, false, cond}
 use mathlib.Core.List.{List, [], _∷_}
 use Prim.Native.Nat.{ℕ, _≤_, _<_}
@@ -8,7 +8,7 @@ use native.Mathlib.Omega.{arith}
 use borrow.Author.Tests.{ltb-true}
 use lib.Dec.{ltb, leb}
 use lib.ListN.{length}
-use Rattle.refusals.specs.Told.{Told, gives, refusal}
+use Rattle.refusals.specs.Told.{gives, refusal}
 use Rattle.numbers.specs.Written.{Bytes}
 use Rattle.lists.specs.declared.Header.{Header}
 use Rattle.lists.specs.Values.{PeriodicList, wordsOf, periodsOf}
@@ -21,7 +21,7 @@ use Rattle.list_laws.proofs.Acceptance.{accepted-obeys}
 use Rattle.periods.specs.Period.{periodBy, askedBy}
 use Rattle.list_text.specs.Text.{textOf, textBy}
 use Rattle.list_text.proofs.TextLaws.{all-words-few, bytes-fit, always-enough}
-use Rattle.mvb.specs.Lists.{readBy, checkAnswer, checkNumber}
+use Rattle.mvb.specs.Lists.{checkAnswer, checkNumber}
 
 -- ---- the check of a list
 

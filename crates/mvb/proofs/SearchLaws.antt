@@ -1,13 +1,13 @@
 -- The search's answer, taken apart for C.
 -- Assumes nothing.
-use mathlib.Core.Path.{_≡_, refl, sym, ap}
+use mathlib.Core.Path.{_≡_, refl, ap}
 use mathlib.Core.Bool.{Bool, true, false, cond}
 use mathlib.Core.List.{List, [], _∷_}
 use Prim.Native.Nat.{ℕ}
 use native.Mathlib.Omega.{arith}
 use lib.Dec.{eqb, ltb}
 use lib.ListN.{length}
-use Rattle.refusals.specs.Told.{Told, gives, refusal}
+use Rattle.refusals.specs.Told.{gives, refusal}
 use Rattle.groups.specs.Sets.{howMany}
 use Rattle.groups.specs.Search.{searchOf}
 use Rattle.search.specs.Searches.{inSet, searched}

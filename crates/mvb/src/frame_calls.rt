@@ -2,7 +2,6 @@
 use frames::MasterRead;
 use frames::Wrote;
 ghost use mathlib.Core.Path.{_≡_};
-ghost use Prim.Native.Nat.{_<_};
 ghost use lib.ListN.{length};
 ghost use Rattle.refusals.specs.Codes.{toldCode};
 ghost use Rattle.checks.specs.Check.{checkOf};

@@ -1,7 +1,7 @@
 -- What the number at the front of some bytes is, by its bytes; and the same at a place.
 -- Assumes nothing.
 use Prim.Native.Nat.{ℕ, zero, suc, _+_, _-_, _*_, _≤_, _<_}
-use mathlib.Core.Path.{_≡_, refl, ap, sym, _∙_}
+use mathlib.Core.Path.{_≡_, refl, ap, _∙_}
 use mathlib.Core.List.{List, [], _∷_}
 use mathlib.Core.Bool.{Bool, true, false}
 use native.Mathlib.Numerals.{add-one}
@@ -10,8 +10,8 @@ use borrow.Author.Tests.{lt-ltb, le-ltb, ltb-true, ltb-false}
 use lib.ListN.{length, getD, drop, drop-of-length-le}
 use lib.Seq.{drop-cons}
 use lib.Dec.{ltb}
-use Rattle.refusals.specs.Told.{Told, gives, refusal}
-use Rattle.numbers.specs.Number.{Groups, cut, whole, under, byTop, groups, Taken, bad, taken, badIf, judged, number, from, numberAt}
+use Rattle.refusals.specs.Told.{gives, refusal}
+use Rattle.numbers.specs.Number.{Groups, cut, whole, under, byTop, groups, bad, taken, judged, number, from, numberAt}
 
 -- where the last group is not 0, the value is not 0
 abbrev Big : Groups → Type 0

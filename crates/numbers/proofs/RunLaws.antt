@@ -1,6 +1,6 @@
 -- The loops of `read_numbers` and `sum_numbers`: what is read, then what is left to read, is what there was to read.
 -- Assumes nothing.
-use Prim.Native.Nat.{ℕ, zero, suc, _+_, _-_, _*_, _≤_, _<_}
+use Prim.Native.Nat.{ℕ, suc, _+_, _-_, _*_, _≤_, _<_}
 use mathlib.Core.Path.{_≡_, refl, ap, sym, _∙_}
 use mathlib.Core.List.{List, [], _∷_, _++_, append-assoc, append-nil}
 use native.Mathlib.Nat.{sub-zero}
@@ -8,7 +8,7 @@ use native.Mathlib.Numerals.{add-one}
 use native.Mathlib.Omega.{arith}
 use lib.ListN.{length, take, drop, set, length-set, take-append-drop}
 use lib.Seq.{drop-drop, drop-set-lt, take-suc-set, length-take-le}
-use Rattle.numbers.specs.Number.{Numbers, Taken, bad, taken, number, first, run, sum}
+use Rattle.numbers.specs.Number.{Numbers, Taken, bad, number, first, run, sum}
 use Rattle.numbers.proofs.Answers.{Got}
 
 pub record Inv (s : List ℕ) (at : ℕ) (out₀ out : List ℕ) (p i : ℕ) : Type 0 where

@@ -1,7 +1,7 @@
 -- What is written is read back, and what is read is what would have been written.
 -- Assumes nothing.
 use Prim.Native.Nat.{ℕ, zero, suc, _+_, _-_, _*_, _/_, _%_, _≤_, _<_}
-use mathlib.Core.Path.{_≡_, refl, ap, sym, _∙_, subst}
+use mathlib.Core.Path.{_≡_, refl, ap, sym, _∙_}
 use mathlib.Core.List.{List, [], _∷_, _++_, append-assoc}
 use mathlib.Core.Bool.{Bool, true, false}
 use native.Mathlib.Nat.{add-mul-mod-self-left, mod-eq-of-lt}
@@ -9,9 +9,9 @@ use native.Mathlib.Omega.{arith}
 use borrow.Author.Tests.{lt-ltb, le-ltb, ltb-true, ltb-false, eqb-true, eqb-false}
 use lib.Dec.{ltb, eqb}
 use lib.ListN.{length, drop, length-append}
-use lib.Seq.{drop-append-seam, drop-append-add}
-use Rattle.numbers.specs.Number.{Numbers, Taken, bad, taken, number, first, run}
-use Rattle.numbers.specs.Written.{byBool, bytesOf, written, Bytes, Most}
+use lib.Seq.{drop-append-seam}
+use Rattle.numbers.specs.Number.{Taken, bad, taken, number, run}
+use Rattle.numbers.specs.Written.{bytesOf, written, Bytes, Most}
 use Rattle.numbers.proofs.NumberLaws.{none-left, one-byte, cut-one, zero-two, two-bytes, cut-two, zero-three, three-bytes, above-three}
 
 -- ---- the bytes of a number, by its size

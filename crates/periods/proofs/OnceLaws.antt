@@ -1,26 +1,24 @@
 -- In an accepted list each listed word goes out in exactly one Basic Period of any run as long as its cycle, once in it; nothing else goes out; and what goes out fits.
 -- Assumes nothing.
-use Prim.Native.Nat.{ℕ, zero, suc, _+_, _-_, _*_, _^_, _/_, _%_, _≤_, _<_}
+use Prim.Native.Nat.{ℕ, zero, suc, _+_, _-_, _*_, _^_, _%_, _≤_, _<_}
 use mathlib.Core.Path.{_≡_, refl, ap, sym, _∙_, subst}
 use mathlib.Core.Logic.{inl, inr, ⊎-elim}
 use mathlib.Core.List.{List, [], _∷_, _++_}
 use mathlib.Core.Bool.{Bool, true, false}
-use native.Mathlib.Nat.{eq-or-lt-of-le, le-of-suc-le-suc, add-mod-right, mod-eq-of-lt, mod-one}
+use native.Mathlib.Nat.{eq-or-lt-of-le, le-of-suc-le-suc, add-mod-right, mod-eq-of-lt}
 use native.Mathlib.Omega.{arith}
-use borrow.Author.Tests.{eqb-true, eq-eqb, eqb-false, ne-eqb}
+use borrow.Author.Tests.{eqb-true, eqb-false}
 use lib.Dec.{eqb}
 use lib.ListN.{length, getD, take, drop, length-append}
 use lib.Pow.{pow-pos, mod-mod-pow}
 use lib.Seq.{take-add, take-all}
 use Rattle.numbers.specs.Written.{Bytes}
 use Rattle.numbers.specs.Number.{sum}
-use Rattle.lists.specs.Values.{Cycle, PeriodicList, cyclesOf, periodsOf, byMs, wordsOf}
-use Rattle.lists.specs.Rules.{listable, clash, clashes}
+use Rattle.lists.specs.Values.{Cycle, PeriodicList, cyclesOf, periodsOf, wordsOf}
 use Rattle.lists.specs.Reading.{took}
 use Rattle.lists.specs.Accepts.{accepted}
 use Rattle.lists.specs.Sends.{cutBy, subcycles, subcycle, sentFrom, sends, takes}
 use Rattle.list_laws.specs.Written.{All, Listable, Clash, Split, CycleObeys, CyclesObey, Obeys}
-use Rattle.list_laws.proofs.ClashLaws.{listable-prop, prop-listable}
 use Rattle.lists.proofs.ListLaws.{periods-power}
 use Rattle.lists.proofs.SentLaws.{words-append}
 use Rattle.list_laws.proofs.Acceptance.{accepted-obeys, obey-listable}

@@ -1,18 +1,17 @@
 -- The loop of `period_words` over the cycles of a list that is written so; and the ways out of asking for a Basic Period.
 -- Assumes nothing.
-use Prim.Native.Nat.{ℕ, zero, suc, _+_, _-_, _*_, _^_, _%_, _≤_, _<_}
+use Prim.Native.Nat.{ℕ, suc, _+_, _-_, _^_, _%_, _≤_, _<_}
 use mathlib.Core.Path.{_≡_, refl, ap, sym, _∙_, subst}
 use mathlib.Core.List.{List, [], _∷_, _++_, append-assoc, append-nil}
-use mathlib.Core.Bool.{Bool, true, false}
-use native.Mathlib.Numerals.{add-one}
+use mathlib.Core.Bool.{true, false}
 use native.Mathlib.Nat.{mod-lt}
 use native.Mathlib.Omega.{arith}
 use borrow.Author.Tests.{lt-ltb, le-ltb, le-leb, lt-leb}
 use lib.Dec.{ltb, leb}
-use lib.ListN.{length, getD, take, drop, length-append, length-drop, length-take, drop-of-length-le, take-append-drop}
+use lib.ListN.{length, getD, take, drop, length-append, length-drop, drop-of-length-le, take-append-drop}
 use borrow.Rule.Slice.PartMut.{putMid, same-len-mid}
 use lib.Pow.{pow-pos, pow-mono}
-use lib.Seq.{drop-append-le, take-all, take-at, drop-append-seam, drop-drop, length-take-le, take-length}
+use lib.Seq.{drop-append-le, take-all, take-at, drop-append-seam, drop-drop, length-take-le}
 use Rattle.refusals.specs.declared.Refusal.{Refusal}
 use Rattle.refusals.specs.Refusals.{numberOf}
 use Rattle.refusals.specs.Told.{Told, gives, refusing, refusal}
@@ -23,16 +22,16 @@ use Rattle.numbers.proofs.ThereLaws.{sum-there}
 use Rattle.lists.specs.declared.Header.{Header}
 use Rattle.lists.specs.declared.ListCheck.{ListCheck}
 use Rattle.lists.specs.declared.ListCheck.the-variants.{Accepted, Refused}
-use Rattle.lists.specs.Values.{Cycle, PeriodicList, cyclesOf, periodsOf, byMs, wordsOf}
+use Rattle.lists.specs.Values.{Cycle, PeriodicList, cyclesOf, periodsOf}
 use Rattle.lists.specs.Reading.{Read, denied, took}
 use Rattle.lists.specs.Sends.{subcycle, sentFrom, sends}
 use Rattle.lists.specs.Accepts.{accepted}
 use Rattle.lists.specs.Answers.{toldCheck, toldRead}
-use Rattle.list_laws.specs.Written.{cycleNumbers, cyclesNumbers, listNumbers, file, CycleObeys, CyclesObey, Obeys}
+use Rattle.list_laws.specs.Written.{cycleNumbers, cyclesNumbers, CycleObeys, CyclesObey, Obeys}
 use Rattle.lists.proofs.SentLaws.{sent-snoc}
 use Rattle.lists.proofs.ListLaws.{cycles-most}
 use Rattle.list_laws.proofs.Acceptance.{accepted-obeys, obeys-accepted, one-list}
-use Rattle.periods.specs.Period.{periodBy, askedBy}
+use Rattle.periods.specs.Period.{periodBy}
 use Rattle.periods.specs.Inside.{CycleHere, SubFits, PartSent, IsList, PeriodWords}
 
 pub sent-append : (cs ds : List Cycle) (m j : ℕ) → sentFrom m j (cs ++ ds) ≡ sentFrom m j cs ++ sentFrom (m + length cs) j ds

@@ -1,6 +1,6 @@
 -- How often a word goes out (demand 2: "each of its frames goes out in exactly one Basic Period of any run as long as its cycle").
 -- Assumes nothing.
-use Prim.Native.Nat.{ℕ, zero, suc, _+_, _^_, _%_, _<_}
+use Prim.Native.Nat.{ℕ, _+_, _%_, _<_}
 use mathlib.Core.Path.{_≡_}
 use mathlib.Core.List.{List, [], _∷_}
 use lib.Dec.{eqb}

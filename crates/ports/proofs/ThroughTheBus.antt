@@ -2,9 +2,8 @@
 -- arrive and read give the same data, with age 0.
 -- Assumes nothing.
 use mathlib.Core.Path.{_≡_, refl, sym, ap, ap₂, _∙_}
-use mathlib.Core.Bool.{true}
 use mathlib.Core.List.{List, [], _∷_, _++_}
-use Prim.Native.Nat.{ℕ, _+_, _≤_, _<_}
+use Prim.Native.Nat.{ℕ, _+_, _≤_}
 use native.Mathlib.Omega.{arith}
 use borrow.Author.Tests.{eq-eqb, lt-ltb, le-ltb}
 use lib.ListN.{length, take, drop}
@@ -17,7 +16,7 @@ use Rattle.frames.specs.Slave.{slaveFrame, slaveData, slaveRead, slaveReadOut, 
 use Rattle.frames.proofs.Order.{write-done}
 use Rattle.frames.proofs.RoundTrip.{slave-accepted, slave-frame-length, slave-written-is-read}
 use Rattle.port_table.specs.declared.Port.{Port}
-use Rattle.port_table.specs.Table.{good, portBytes, tableBytes, placeOf, offsetOf, portOf, isSink}
+use Rattle.port_table.specs.Table.{portBytes, tableBytes, placeOf, offsetOf, portOf}
 use Rattle.port_table.proofs.Places.{within}
 use Rattle.ports.specs.Lent.{answered, portData}
 use Rattle.ports.specs.Arriving.{arriveRefusal, arrive, arriveStore, arriveAges}

@@ -8,7 +8,7 @@ use lib.ListN.{getD}
 use Rattle.refusals.specs.declared.Refusal.{Refusal}
 use Rattle.refusals.specs.declared.Refusal.the-variants.{WrongLength, WrongCheck, ReservedFcode, TooShort, BadNumber, OutOfRange, FcodeNotListable, ListedTwice, SplitSumWrong, PeriodOverfull, BytesAfterList, NoSuchPeriod, TableNotGood, NotProcessData, NoSuchPort, FcodeNotPorts, WrongDirection, ImpossibleRound, TooManyFrames}
 use Rattle.refusals.specs.Refusals.{numberOf}
-use Rattle.refusals.specs.Told.{Told, gives, refused, refusing}
+use Rattle.refusals.specs.Told.{gives, refusing}
 
 -- the refusals in the order of their numbers, with one in front for number 0, which no refusal has
 table : List Refusal

@@ -1,11 +1,11 @@
 -- What C is told: values, ends and refusals, and that numbers tell answers apart.
 -- Assumes nothing.
 use mathlib.Core.Path.{_≡_, refl, sym, ap, _∙_}
-use mathlib.Core.List.{List, [], _∷_}
-use Prim.Native.Nat.{ℕ, _+_, _-_, _≤_, _<_}
+use mathlib.Core.List.{[], _∷_}
+use Prim.Native.Nat.{ℕ, _-_, _≤_, _<_}
 use native.Mathlib.Decide.{decLe, ℕ-discrete}
 use native.Mathlib.Omega.{arith}
-use borrow.Author.Tests.{lt-ltb, le-ltb, eq-eqb, ne-eqb}
+use borrow.Author.Tests.{lt-ltb, le-ltb, ne-eqb}
 use Rattle.refusals.specs.declared.Refusal.{Refusal}
 use Rattle.refusals.specs.declared.Refusal.the-variants.{WrongLength, WrongCheck, ReservedFcode, TooShort, BadNumber, OutOfRange, FcodeNotListable, ListedTwice, SplitSumWrong, PeriodOverfull, BytesAfterList, NoSuchPeriod, TableNotGood, NotProcessData, NoSuchPort, FcodeNotPorts, WrongDirection, ImpossibleRound, TooManyFrames}
 use Rattle.refusals.specs.Refusals.{numberOf}

@@ -19,7 +19,7 @@ use Rattle.frames.specs.declared.LineAnswer.the-variants.{Silence, Reply, Colli
 use Rattle.frames.specs.Words.{fCode, address}
 use Rattle.frames.proofs.LineAnswer.{the-type as answer-type}
 use Rattle.groups.specs.Groups.{isGroup, inGroup, over, at, follows}
-use Rattle.groups.proofs.Follow.{Group, is-group, group-is, ones-last, highest-zero}
+use Rattle.groups.proofs.Follow.{Group, group-is, ones-last, highest-zero}
 use Rattle.groups.proofs.Powers.{at-most, doubled}
 use Rattle.rounds.specs.declared.Phase.{Phase}
 use Rattle.rounds.specs.declared.Phase.the-variants.{Asked, Read, Ended}

@@ -9,8 +9,8 @@ use native.Mathlib.Omega.{arith}
 use native.Mathlib.Decide.{decLe}
 use borrow.Author.Tests.{ne-eqb}
 use lib.Dec.{T, eqb, eqb→eq, leb, leb→le}
-use lib.ListN.{length, getD, List·getD-eq-default}
-use Rattle.checks.proofs.Tests.{both, both-left, both-right, upto, at-upto}
+use lib.ListN.{getD, List·getD-eq-default}
+use Rattle.checks.proofs.Tests.{both, both-left, both-right, at-upto}
 use Rattle.rows.specs.Rows.{dataBits, reserved, dataBytes, blocks, blockBytes, frameBytes, lineBits, rowOf}
 
 -- ---- beyond the table

@@ -6,12 +6,12 @@ use mathlib.Core.List.{List, [], _∷_}
 use Prim.Native.Nat.{ℕ, _+_, _≤_, _<_}
 use native.Mathlib.Omega.{arith}
 use borrow.Author.Tests.{eq-eqb, ne-eqb, le-leb, lt-leb, not-true, not-false}
-use lib.Dec.{eqb, leb}
+use lib.Dec.{leb}
 use lib.ListN.{getD}
 use Rattle.refusals.specs.Told.{Told, gives, refusal}
-use Rattle.rows.specs.Rows.{reserved, lineBits, rowOf, frameBytes}
+use Rattle.rows.specs.Rows.{reserved, lineBits, rowOf}
 use Rattle.rows.proofs.Rows.{row-allowed, line-is, whole-most}
-use Rattle.timing.specs.Timing.{telegramBits, gapInRange, timedBy, telegramAnswer, guardAnswer, may, mayNot}
+use Rattle.timing.specs.Timing.{telegramBits, gapInRange, telegramAnswer, guardAnswer, may, mayNot}
 
 module _ (f gap : ℕ) (row : List ℕ) (e : row ≡ rowOf f) where
   pub telegram-3 : (getD row 3 0 ≡ 1 → ⊥) → refusal 3 ≡ telegramAnswer f gap

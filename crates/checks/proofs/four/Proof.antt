@@ -1,6 +1,5 @@
 -- `checks::four` meets its contract.
 -- Assumes nothing.
-use native.Mathlib.Omega.{arith}
 use borrow.Author.Needs.{needs}
 use Rattle.checks.proofs.Numbers.{number-four}
 use Rattle.checks.proofs.four.Statement.{statement}

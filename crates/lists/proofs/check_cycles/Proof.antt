@@ -1,7 +1,7 @@
 -- `check_cycles` meets its promise, a law for each way out.
 -- Assumes nothing.
 use borrow.Author.Needs.{needs}
-use mathlib.Core.Path.{sym, ap, _∙_}
+use mathlib.Core.Path.{sym, _∙_}
 use Rattle.lists.proofs.ListLaws.{no-marks, fresh, periods-fit, part-long, part-room, part-back, part-again, cycles-no, cycles-yes}
 use Rattle.lists.proofs.check_cycles.Statement.{statement}
 use Rattle.lists.proofs.check_cycles.Tie as tie

@@ -2,7 +2,7 @@
 -- Assumes nothing.
 use borrow.Author.Needs.{needs}
 use native.Mathlib.Omega.{arith}
-use mathlib.Core.Path.{refl, sym, ap, _∙_}
+use mathlib.Core.Path.{refl, sym}
 use lib.ListN.{length-take}
 use lib.Seq.{length-take-le}
 use Rattle.periods.proofs.PeriodLaws.{send-12, below, m-most, send-straight, send-4, send-yes}

@@ -1,6 +1,6 @@
 -- `frames::blocks::copy_blocks` meets its contract, for each size as its own loop or function does.
 -- Assumes nothing.
-use mathlib.Core.Path.{_≡_, sym, ap, ap₂, _∙_, subst, subst₂}
+use mathlib.Core.Path.{sym, ap, ap₂, _∙_, subst, subst₂}
 use mathlib.Core.List.{_++_}
 use Prim.Native.Nat.{ℕ, _+_, _*_, _≤_}
 use borrow.Author.Needs.{needs}

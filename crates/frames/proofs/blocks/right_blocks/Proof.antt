@@ -1,6 +1,6 @@
 -- `frames::blocks::right_blocks` meets its contract, for each size as its own loop or function does.
 -- Assumes nothing.
-use mathlib.Core.Path.{_≡_, sym, ap, ap₂, _∙_}
+use mathlib.Core.Path.{sym, ap, ap₂, _∙_}
 use Prim.Native.Nat.{ℕ, _+_, _*_}
 use native.Mathlib.Nat.{le-of-eq}
 use borrow.Author.Needs.{needs}

@@ -1,7 +1,7 @@
 -- `read_body` meets its promise, a law for each way out.
 -- Assumes nothing.
 use borrow.Author.Needs.{needs}
-use mathlib.Core.Path.{sym, ap, _∙_}
+use mathlib.Core.Path.{_∙_}
 use Rattle.lists.proofs.CycleLaws.{body-no-words, words-rise, body-words}
 use Rattle.lists.proofs.cycles.read_body.Statement.{statement}
 use Rattle.lists.proofs.cycles.read_body.Tie as tie

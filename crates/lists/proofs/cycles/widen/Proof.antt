@@ -2,8 +2,7 @@
 -- Assumes nothing.
 use borrow.Author.Needs.{needs}
 use native.Mathlib.Omega.{arith}
-use Prim.Native.Nat.{ℕ, _-_}
-use lib.ListN.{length}
+use Prim.Native.Nat.{_-_}
 use Rattle.lists.proofs.WidenLaws.{Inv, first, start, more, end}
 use Rattle.lists.proofs.cycles.widen.Statement.{statement}
 use Rattle.lists.proofs.cycles.widen.Tie as tie

@@ -1,7 +1,6 @@
 -- `read_split` meets its promise, a law for each way out.
 -- Assumes nothing.
 use borrow.Author.Needs.{needs}
-use mathlib.Core.Path.{refl, sym, ap, _∙_}
 use Rattle.lists.proofs.SplitLaws.{split-one, split-none, split-some, one-fits}
 use Rattle.lists.proofs.splits.read_split.Statement.{statement}
 use Rattle.lists.proofs.splits.read_split.Tie as tie

@@ -2,9 +2,8 @@
 -- Assumes nothing.
 use borrow.Author.Needs.{needs}
 use native.Mathlib.Omega.{arith}
-use Prim.Native.Nat.{_-_, _/_}
-use mathlib.Core.Path.{refl, sym, _∙_}
-use lib.ListN.{length, length-set}
+use Prim.Native.Nat.{_-_}
+use mathlib.Core.Path.{refl}
 use Rattle.lists.proofs.WordLaws.{Inv, start, end, stop, more, sum-fits, sums-there}
 use Rattle.lists.proofs.words.read_words.Statement.{statement}
 use Rattle.lists.proofs.words.read_words.Tie as tie

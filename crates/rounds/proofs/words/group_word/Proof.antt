@@ -1,6 +1,6 @@
 -- `rounds::words::group_word` meets its contract: M - 1 ones, a zero and C make 2^12 - 2^(13-M) + C; for M = 0 nothing is taken away.
 -- Assumes nothing.
-use mathlib.Core.Path.{_≡_, sym, ap, _∙_}
+use mathlib.Core.Path.{_≡_, sym}
 use Prim.Native.Nat.{ℕ, zero, suc, _+_, _-_, _%_, _/_, _^_, _≤_}
 use native.Mathlib.Omega.{arith}
 use native.Mathlib.Nat.{mod-eq-of-lt}
