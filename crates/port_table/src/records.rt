@@ -46,8 +46,11 @@ pub(crate) fn walked(records: usize) -> usize
     if 256 < records { 0 } else { records }
 }
 
+// More than the bytes of any good table.
+const HEAVY: usize = 65536;
+
 // The data of a Process Data port, as the table of rows has it: an instruction less for each record than by its row.
-// Another F_code weighs more than any good table, so that the sum tells of it and no record is tested for it.
+// Another F_code is heavy, so that the sum tells of it and no record is tested for it.
 fn data_bytes(f_code: u8) -> usize
     ensures { λ r. ⌜ («f_code» < 5 → (r ≡ dataBytes «f_code») × (r ≤ 32)) × (5 ≤ «f_code» → r ≡ heavy) ⌝ }
 {
@@ -57,7 +60,7 @@ fn data_bytes(f_code: u8) -> usize
         2 => 8,
         3 => 16,
         4 => 32,
-        _ => 65536,
+        _ => HEAVY,
     }
 }
 
@@ -158,7 +161,7 @@ pub(crate) fn shown(walk: Walk, count: usize) -> Seen
     if !good {
         return not_good();
     }
-    if 65536 <= walk.bytes {
+    if HEAVY <= walk.bytes {
         return not_good();
     }
     if 4096 < walk.next {
