@@ -5,7 +5,7 @@ use mathlib.Core.Path.{_≡_}
 use mathlib.Core.Bool.{Bool, true, false}
 use mathlib.Core.List.{List, [], _∷_}
 use lib.Dec.{leb, eqb}
-use lib.ListN.{length, drop, set}
+use lib.ListN.{length, getD, drop, set}
 use Rattle.frames.specs.declared.LineAnswer.{LineAnswer}
 use Rattle.frames.specs.declared.LineAnswer.the-variants.{Silence, Reply, Collision}
 use Rattle.frames.specs.Words.{wordOf}
@@ -19,6 +19,10 @@ abbrev pub answerTo : List ℕ → LineAnswer
 answerTo [] = Silence
 answerTo (a ∷ []) = Reply (wordOf 12 a)
 answerTo (a ∷ b ∷ l) = Collision
+
+-- bit n mod 8 of byte n div 8
+abbrev pub bitAt : List ℕ → ℕ → ℕ
+bitAt bytes n = getD bytes (n / 8) 0 / 2 ^ (n % 8) % 2
 
 -- bit k of a byte
 abbrev pub bitOf : ℕ → ℕ → Bool

@@ -10,7 +10,7 @@ ghost use lib.ListN.{length, drop};
 ghost use Rattle.groups.specs.Groups.{isGroup};
 ghost use Rattle.groups.specs.Sets.{devices as devicesOf, howMany};
 ghost use Rattle.search.specs.Searches.{inSet, searched, written};
-ghost use Rattle.search.specs.Inside.{answerTo, bitsOf, One, Marked, hasEvent, Width, Packed, Walks, Settled};
+ghost use Rattle.search.specs.Inside.{bitAt, answerTo, bitsOf, One, Marked, hasEvent, Width, Packed, Walks, Settled};
 ghost use Rattle.search.specs.Told.{told};
 
 // Requests and reads; or a refusal.
@@ -288,17 +288,23 @@ fn lacks(bytes: &[u8], n: usize) -> usize
     requires { ⌜ n < 8 * length (now bytes) ⌝ }
     ensures { λ r. ⌜ r ≡ cond (inSet (now (bytes .entry)) n) 0 1 ⌝ }
 {
-    let i = n / 8;
-    let bit = (n % 8) as u8;
-    (1 - (bytes[i] >> bit) % 2) as usize
+    (1 - bit(bytes, n)) as usize
 }
 
-// Whether this bit is set: bit n mod 8 of byte n div 8.
+// Whether this bit is set.
 fn has(bytes: &[u8], n: usize) -> bool
     requires { ⌜ n < 8 * length (now bytes) ⌝ }
     ensures { λ r. ⌜ r ≡ inSet (now (bytes .entry)) n ⌝ }
 {
+    bit(bytes, n) == 1
+}
+
+// Bit n mod 8 of byte n div 8.
+fn bit(bytes: &[u8], n: usize) -> u8
+    requires { ⌜ n < 8 * length (now bytes) ⌝ }
+    ensures { λ r. ⌜ (r ≡ bitAt (now (bytes .entry)) n) × (r < 2) ⌝ }
+{
     let i = n / 8;
-    let bit = (n % 8) as u8;
-    (bytes[i] >> bit) % 2 == 1
+    let place = (n % 8) as u8;
+    (bytes[i] >> place) % 2
 }
