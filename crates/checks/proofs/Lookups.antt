@@ -1,4 +1,4 @@
--- The check bits of a number are the sum of those of its parts, four bits each; a word's high bits first join its low ones.
+-- The check bits of a number are the sum of those of its parts, four bits each; a word's first byte first joins the second.
 -- Assumes nothing.
 use mathlib.Core.Path.{_≡_, refl, sym, ap, ap₂, _∙_}
 use Prim.Native.Nat.{ℕ, _+_, _*_, _/_, _%_, _^_, _<_}
@@ -70,32 +70,32 @@ of-two x y hx hy ea eb ec =
 left-lt : (n : ℕ) → left n < 256
 left-lt n = number-byte-lt (plain (bits 64 n)) (length-plain (bits 64 n))
 
--- the high bits with their double
+-- a byte with its double
 abbrev twice : ℕ → ℕ
-twice high = bitXor high (high * 2 % 18446744073709551616)
+twice first = bitXor first (first * 2 % 18446744073709551616)
 
--- what is left of the high bits: the seven low bits of their double sum, and their parity
+-- what is left of the first byte: the six low bits of the sum, and the byte's parity
 abbrev gone : ℕ → ℕ
-gone high = twice high % 128 * 2 + ones high % 2
+gone first = twice first % 64 * 4 + ones first % 2
 
--- x^14 and x + 1 leave one remainder: computed for each value of nine bits
-every-high : T (upto 512 (λ (h : ℕ). eqb (bitXor (gone h) (left (twice h / 128))) (left (h * 2 ^ 7))))
+-- x^15 and x^2 + x leave one remainder: computed for each byte
+every-first : T (upto 256 (λ (b : ℕ). eqb (bitXor (gone b) (left (twice b / 64))) (left (b * 2 ^ 8))))
 unfolding bits plain remainder ones onesIn
-every-high = tt
+every-first = tt
 
-high-left : (h : ℕ) → h < 512 → bitXor (gone h) (left (twice h / 128)) ≡ left (h * 2 ^ 7)
-high-left h l = eqb→eq _ _ (at-upto 512 (λ (h : ℕ). eqb (bitXor (gone h) (left (twice h / 128))) (left (h * 2 ^ 7))) every-high h l)
+first-left : (b : ℕ) → b < 256 → bitXor (gone b) (left (twice b / 64)) ≡ left (b * 2 ^ 8)
+first-left b l = eqb→eq _ _ (at-upto 256 (λ (b : ℕ). eqb (bitXor (gone b) (left (twice b / 64))) (left (b * 2 ^ 8))) every-first b l)
 
--- what joins the low bits fits in a byte
-pub joined-lt : (v : ℕ) → v < 65536 → bitXor (v % 128) (twice (v / 128) / 128) < 256
-joined-lt v l = xor-lt 8 (v % 128) (twice (v / 128) / 128) (omega arith) (omega (arith, xor-lt 10 (v / 128) (v / 128 * 2 % 18446744073709551616) (omega arith) (omega arith)))
+-- what the second byte becomes is a byte
+pub joined-lt : (v : ℕ) → v < 65536 → bitXor (v % 256) (twice (v / 256) / 64) < 256
+joined-lt v l = xor-lt 8 (v % 256) (twice (v / 256) / 64) (omega arith) (omega (arith, xor-lt 9 (v / 256) (v / 256 * 2 % 18446744073709551616) (omega arith) (omega arith)))
 
-pub of-word : (v : ℕ) {p : ℕ} → v < 65536 → p ≡ left (bitXor (v % 128) (twice (v / 128) / 128)) → bitXor (gone (v / 128)) p ≡ left v
+pub of-word : (v : ℕ) {p : ℕ} → v < 65536 → p ≡ left (bitXor (v % 256) (twice (v / 256) / 64)) → bitXor (gone (v / 256)) p ≡ left v
 of-word v l e =
-    let h : ℕ = v / 128 in
-    let high : h < 512 = omega arith in
-    let t : ℕ = twice h / 128 in
-    ap (bitXor (gone h)) (e ∙ ap left (xor-comm (v % 128) t) ∙ sym (left-xor t (v % 128)))
-    ∙ xor-assoc (gone h) (left t) (left (v % 128)) (omega arith) (left-lt t) (left-lt (v % 128))
-    ∙ more 7 h (h * 2 ^ 7) (v % 128) refl (omega arith) (high-left h high) refl
-    ∙ ap left (let s : h * 2 ^ 7 + v % 128 ≡ v = omega arith in s)
+    let b : ℕ = v / 256 in
+    let high : b < 256 = omega arith in
+    let t : ℕ = twice b / 64 in
+    ap (bitXor (gone b)) (e ∙ ap left (xor-comm (v % 256) t) ∙ sym (left-xor t (v % 256)))
+    ∙ xor-assoc (gone b) (left t) (left (v % 256)) (omega arith) (left-lt t) (left-lt (v % 256))
+    ∙ more 8 b (b * 2 ^ 8) (v % 256) refl (omega arith) (first-left b high) refl
+    ∙ ap left (let s : b * 2 ^ 8 + v % 256 ≡ v = omega arith in s)

@@ -12,12 +12,6 @@ fn wide(byte: u8) -> u64
     byte as u64
 }
 
-fn word_of(high: u8, low: u8) -> u16
-    ensures { λ r. ⌜ (r / 256 ≡ high) × (r % 256 ≡ low) ⌝ }
-{
-    (high as u16) * 256 + low as u16
-}
-
 fn four(bytes: &[u8]) -> u64
     requires { ⌜ length (now bytes) ≡ 4 ⌝ }
     ensures { λ r. ⌜ (r ≡ number (bitsOf (now (bytes .entry)))) × (r < 4294967296) ⌝ }
@@ -204,17 +198,17 @@ fn plain_of_byte(v: u64) -> u8
     from_4((v >> 4) % 16) ^ from_0(v % 16)
 }
 
-// What a word leaves. x^14 and x + 1 leave one remainder, so that the word's nine high bits join the others with
-// their double; only their own parity is left of them.
+// What a word leaves. x^15 and x^2 + x leave one remainder, so that the word's first byte joins the second with its
+// double; only its own parity is left of it.
 fn plain_of_word(v: u64) -> u8
     requires { ⌜ v < 65536 ⌝ }
     ensures { λ r. ⌜ r ≡ number (plain (bits 64 v)) ⌝ }
 {
-    let high = v >> 7;
-    let twice = high ^ (high << 1);
-    let parity = u64::count_ones(high) % 2;
-    let low = (v % 128) ^ (twice >> 7);
-    ((twice % 128 * 2) as u8 + parity as u8) ^ plain_of_byte(low)
+    let first = v >> 8;
+    let twice = first ^ (first << 1);
+    let parity = u64::count_ones(first) % 2;
+    let second = (v % 256) ^ (twice >> 6);
+    ((twice % 64 * 4) as u8 + parity as u8) ^ plain_of_byte(second)
 }
 
 // What two bytes leave. The lookups do not wait for each other, as those of one byte after the other do.
@@ -252,14 +246,11 @@ pub fn check_of_word(word: u16) -> u8
     255 - plain_of_word(word as u64)
 }
 
-// The check sequence of a block of any length. The blocks of a frame have two, four or eight bytes. The longer ones end in
-// one way out: then a word keeps no registers for them.
+// The check sequence of a block of any length. The blocks of a frame have two, four or eight bytes; those of two are
+// words.
 pub fn check_of(block: &[u8]) -> u8
     ensures { λ r. ⌜ r ≡ checkOf (now (block .entry)) ⌝ }
 {
-    if block.len() == 2 {
-        return check_of_word(word_of(block[0], block[1]));
-    }
     let plain = if block.len() == 8 {
         wide(plain_of(folded(four(&block[..4]), four(&block[4..]))))
     } else {

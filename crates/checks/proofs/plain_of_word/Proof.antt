@@ -1,4 +1,4 @@
--- `checks::plain_of_word` meets its contract: what its low bits leave, joined by the high ones, and what is left of these.
+-- `checks::plain_of_word` meets its contract: what its second byte leaves, joined by the first, and what is left of that.
 -- Assumes nothing.
 use borrow.Author.Needs.{needs}
 use Rattle.checks.proofs.Lookups.{joined-lt, of-word}
