@@ -1,15 +1,18 @@
 -- A round lent as a run of six numbers: what a start and a step leave in it, way out by way out.
 -- Assumes nothing.
-use mathlib.Core.Path.{_≡_, refl, sym, ap, _∙_}
+use mathlib.Core.Path.{_≡_, refl, sym, ap, ap₂, subst, _∙_}
 use mathlib.Core.Bool.{Bool, true, false, cond}
 use mathlib.Core.List.{List, [], _∷_}
+use mathlib.Core.Logic.{⊎-elim}
 use Prim.Native.Nat.{ℕ, zero, suc, _/_, _≤_, _<_}
 use native.Mathlib.Omega.{arith}
 use borrow.Author.Tests.{lt-ltb, le-ltb, ne-eqb}
+use types.Run.{OneOf}
+use denote.Enum.Declared.{tagOf}
 use lib.Dec.{ltb}
 use lib.ListN.{length, getD, drop, set}
 use Rattle.refusals.specs.declared.Refusal.{Refusal}
-use Rattle.refusals.specs.declared.Refusal.the-variants.{OutOfRange}
+use Rattle.refusals.specs.declared.Refusal.the-variants.{OutOfRange, ImpossibleRound}
 use Rattle.refusals.specs.Told.{gives, refusal, refusing}
 use Rattle.frames.specs.declared.LineAnswer.{LineAnswer}
 use Rattle.frames.specs.declared.LineAnswer.the-variants.{Silence, Reply, Collision}
@@ -17,15 +20,16 @@ use Rattle.frames.specs.Answers.{toldLine}
 use Rattle.frames.specs.Words.{fCode, wordIn}
 use Rattle.frames.specs.Line.{rightFrame, answerOf, lineAnswer}
 use Rattle.frames.proofs.Apart.{lines-apart}
-use Rattle.groups.specs.Groups.{follows, requestWord}
+use Rattle.groups.specs.Groups.{Place, over, at, follows, requestWord}
 use Rattle.rounds.specs.declared.Counts.{Counts}
 use Rattle.rounds.specs.declared.Phase.{Phase}
 use Rattle.rounds.specs.declared.Phase.the-variants.{Asked, Read, Ended}
 use Rattle.rounds.specs.declared.Round.{Round}
 use Rattle.rounds.specs.declared.Step.{Step}
 use Rattle.rounds.specs.declared.Step.the-variants.{Next, End, Refused}
-use Rattle.rounds.specs.Rounds.{Verdict, unclear, judge, countsOf, none, round, stepBy, stepOf, startOf}
+use Rattle.rounds.specs.Rounds.{Verdict, nobody, named, unclear, judge, countsOf, none, oneRequest, oneUnresolved, round, stand, split, heard, impossible, ended, reading, stepBy, stepOf, startOf}
 use Rattle.rounds.specs.Told.{phaseNumber, told}
+use Rattle.rounds.proofs.Phase.{the-type as phase-type}
 use Rattle.rounds.proofs.Apart.{steps-apart}
 use Rattle.mvb.specs.Rounds.{phaseOf, roundIn, stored, toldStep, runAfter, startAnswer, startRun, roundAnswer, roundRun}
 use Rattle.mvb.specs.Inside.{AsHeard}
@@ -42,14 +46,14 @@ just-one zero h f = absurd (f refl)
 just-one (suc zero) h f = refl
 just-one (suc (suc n)) h f = absurd (omega arith)
 
-six-set : (l : List ℕ) (p m c q r u : ℕ) → 6 ≤ length l → set (set (set (set (set (set l 0 p) 1 m) 2 c) 3 q) 4 r) 5 u ≡ p ∷ m ∷ c ∷ q ∷ r ∷ u ∷ drop 6 l
-six-set [] p m c q r u h = absurd (omega arith)
-six-set (x ∷ []) p m c q r u h = absurd (omega arith)
-six-set (x ∷ y ∷ []) p m c q r u h = absurd (omega arith)
-six-set (x ∷ y ∷ z ∷ []) p m c q r u h = absurd (omega arith)
-six-set (x ∷ y ∷ z ∷ v ∷ []) p m c q r u h = absurd (omega arith)
-six-set (x ∷ y ∷ z ∷ v ∷ w ∷ []) p m c q r u h = absurd (omega arith)
-six-set (x ∷ y ∷ z ∷ v ∷ w ∷ t ∷ l) p m c q r u h = refl
+six : (l : List ℕ) → 6 ≤ length l → l ≡ getD l 0 0 ∷ getD l 1 0 ∷ getD l 2 0 ∷ getD l 3 0 ∷ getD l 4 0 ∷ getD l 5 0 ∷ drop 6 l
+six [] h = absurd (omega arith)
+six (x ∷ []) h = absurd (omega arith)
+six (x ∷ y ∷ []) h = absurd (omega arith)
+six (x ∷ y ∷ z ∷ []) h = absurd (omega arith)
+six (x ∷ y ∷ z ∷ v ∷ []) h = absurd (omega arith)
+six (x ∷ y ∷ z ∷ v ∷ w ∷ []) h = absurd (omega arith)
+six (x ∷ y ∷ z ∷ v ∷ w ∷ t ∷ l) h = refl
 
 pub loaded : (run : List ℕ) (p : Phase) → p ≡ phaseOf (getD run 0 0)
     → record { phase = p; m = getD run 1 0; c = getD run 2 0; requests = getD run 3 0; reads = getD run 4 0; unresolved = getD run 5 0 } ≡ roundIn run
@@ -60,11 +64,36 @@ loaded run p e =
     with-phase : Phase → Round
     with-phase q = record { phase = q; m = getD run 1 0; c = getD run 2 0; requests = getD run 3 0; reads = getD run 4 0; unresolved = getD run 5 0 }
 
-pub six-stored : (run : List ℕ) (r : Round) (n : ℕ) → n ≡ phaseNumber (r .phase) → 6 ≤ length run
-    → set (set (set (set (set (set run 0 n) 1 (r .m)) 2 (r .c)) 3 (r .requests)) 4 (r .reads)) 5 (r .unresolved) ≡ stored r run
-six-stored run r n e h =
-    six-set run n (r .m) (r .c) (r .requests) (r .reads) (r .unresolved) h
-    ∙ ap (λ (p : ℕ). p ∷ r .m ∷ r .c ∷ r .requests ∷ r .reads ∷ r .unresolved ∷ drop 6 run) e
+-- the six numbers of a round, one by one
+stored-as : (run : List ℕ) (r : Round) {p m c q d u : ℕ} → p ≡ phaseNumber (r .phase) → m ≡ r .m → c ≡ r .c → q ≡ r .requests → d ≡ r .reads → u ≡ r .unresolved
+    → p ∷ m ∷ c ∷ q ∷ d ∷ u ∷ drop 6 run ≡ stored r run
+stored-as run r ep em ec eq ed eu =
+    ap₂ _∷_ ep (ap₂ _∷_ em (ap₂ _∷_ ec (ap₂ _∷_ eq (ap₂ _∷_ ed (ap (λ (u : ℕ). u ∷ drop 6 run) eu)))))
+
+module _ (run : List ℕ) (r : Round) (h : 6 ≤ length run) where
+  pub stored-length : length (stored r run) ≡ length run
+  stored-length = sym (ap length (six run h))
+
+  pub six-stored : (n : ℕ) → n ≡ phaseNumber (r .phase)
+      → set (set (set (set (set (set run 0 n) 1 (r .m)) 2 (r .c)) 3 (r .requests)) 4 (r .reads)) 5 (r .unresolved) ≡ stored r run
+  six-stored n e =
+      ap (λ (l : List ℕ). set (set (set (set (set (set l 0 n) 1 (r .m)) 2 (r .c)) 3 (r .requests)) 4 (r .reads)) 5 (r .unresolved)) (six run h)
+      ∙ stored-as run r e refl refl refl refl refl
+
+  pub asked-stored : r .phase ≡ Asked → r .reads ≡ getD run 4 0 → set (set (set (set (set run 0 0) 1 (r .m)) 2 (r .c)) 3 (r .requests)) 5 (r .unresolved) ≡ stored r run
+  asked-stored p d =
+      ap (λ (l : List ℕ). set (set (set (set (set l 0 0) 1 (r .m)) 2 (r .c)) 3 (r .requests)) 5 (r .unresolved)) (six run h)
+      ∙ stored-as run r (sym (ap phaseNumber p)) refl refl refl (sym d) refl
+
+  pub read-stored : r .phase ≡ Read → r .m ≡ getD run 1 0 → r .c ≡ getD run 2 0 → r .unresolved ≡ getD run 5 0 → set (set (set run 0 1) 3 (r .requests)) 4 (r .reads) ≡ stored r run
+  read-stored p m c u =
+      ap (λ (l : List ℕ). set (set (set l 0 1) 3 (r .requests)) 4 (r .reads)) (six run h)
+      ∙ stored-as run r (sym (ap phaseNumber p)) (sym m) (sym c) refl refl (sym u)
+
+  pub ended-stored : r .phase ≡ Ended → r .m ≡ 12 → r .c ≡ 0 → r .reads ≡ getD run 4 0 → set (set (set (set (set run 0 2) 1 12) 2 0) 3 (r .requests)) 5 (r .unresolved) ≡ stored r run
+  ended-stored p m c d =
+      ap (λ (l : List ℕ). set (set (set (set (set l 0 2) 1 12) 2 0) 3 (r .requests)) 5 (r .unresolved)) (six run h)
+      ∙ stored-as run r (sym (ap phaseNumber p)) (sym m) (sym c) refl (sym d) refl
 
 -- ---- a step
 
@@ -73,12 +102,12 @@ unfolding roundAnswer roundRun
 step-4 run bytes h = (simp (lt-ltb (length run) 6 h), simp (lt-ltb (length run) 6 h))
 
 -- an ended round answers the end again
-over : (r : Round) (a : LineAnswer) → r .phase ≡ Ended → stepOf r a ≡ End r (countsOf r)
+stays : (r : Round) (a : LineAnswer) → r .phase ≡ Ended → stepOf r a ≡ End r (countsOf r)
 unfolding stepBy
-over r a e = simp e
+stays r a e = simp e
 
 again : (n : ℕ) (r : Round) (a : LineAnswer) → 1 < n → r .phase ≡ phaseOf n → toldStep (stepOf r a) ≡ gives []
-again n r a h e = ap toldStep (over r a (e ∙ sym (above-one n h)))
+again n r a h e = ap toldStep (stays r a (e ∙ sym (above-one n h)))
 
 pub step-ended : (run bytes : List ℕ) → 6 ≤ length run → 1 < getD run 0 0 → (gives [] ≡ roundAnswer run bytes) × (run ≡ roundRun run bytes)
 unfolding roundAnswer roundRun roundIn
@@ -115,6 +144,79 @@ pub is-step : (run bytes : List ℕ) {r : Round} → r ≡ roundIn run → (a : 
     → step ≡ stepOf (roundIn run) (answerOf bytes)
 unfolding roundIn
 is-step run bytes {r} er a ea {step} es = steps-apart step (stepOf r a) es ∙ ap (λ (x : Round). stepOf x a) er ∙ ea (roundIn run) refl
+
+-- what a round that waits has after a step as it had before: by the phase that it goes to, and at its end
+abbrev Keeps : Round → Phase → Round → Type 0
+Keeps r Asked n = n .reads ≡ r .reads
+Keeps r Read n = (n .m ≡ r .m) × (n .c ≡ r .c) × (n .unresolved ≡ r .unresolved)
+Keeps r Ended n = ⊥
+
+abbrev Leaves : Round → Step → Type 0
+Leaves r (Next n w) = Keeps r (n .phase) n
+Leaves r (End n k) = (n .phase ≡ Ended) × (n .m ≡ 12) × (n .c ≡ 0) × (n .reads ≡ r .reads)
+Leaves r (Refused n) = Unit
+
+module _ (r : Round) where
+  stand-leaves : (place : Place) (k : Counts) → k .reads ≡ r .reads → Leaves r (stand place k)
+  stand-leaves over k e = (refl, refl, refl, e)
+  stand-leaves (at m c) k e = e
+
+  split-leaves : (m c : ℕ) (k : Counts) → k .reads ≡ r .reads → Leaves r (split m c k)
+  split-leaves zero c k e = stand-leaves (follows zero c) (oneUnresolved k) e
+  split-leaves (suc m) c k e = e
+
+  heard-leaves : (v : Verdict) → Leaves r (heard v (r .m) (r .c) (oneRequest (countsOf r)))
+  heard-leaves nobody = stand-leaves (follows (r .m) (r .c)) (oneRequest (countsOf r)) refl
+  heard-leaves (named word) = (refl, refl, refl)
+  heard-leaves unclear = split-leaves (r .m) (r .c) (oneRequest (countsOf r)) refl
+
+  whichever : (b : Bool) (s t : Step) → Leaves r s → Leaves r t → Leaves r (cond b s t)
+  whichever true s t ls lt = ls
+  whichever false s t ls lt = lt
+
+  step-leaves : (a : LineAnswer) → ended (r .phase) ≡ false → Leaves r (stepOf r a)
+  unfolding stepBy
+  step-leaves a e =
+      let read : Step = stand (follows (r .m) (r .c)) (countsOf r) in
+      let asked : Step = heard (judge (r .m) (r .c) a) (r .m) (r .c) (oneRequest (countsOf r)) in
+      let goes : Step = cond (reading (r .phase)) read asked in
+      let waits : Step = cond (impossible 8190 follows r) (Refused ImpossibleRound) goes in
+      subst (λ (b : Bool). Leaves r (cond b (End r (countsOf r)) waits)) (sym e)
+      (whichever (impossible 8190 follows r) (Refused ImpossibleRound) goes tt
+      (whichever (reading (r .phase)) read asked (stand-leaves (follows (r .m) (r .c)) (countsOf r) refl) (heard-leaves (judge (r .m) (r .c) a))))
+
+waiting : (n : ℕ) → n ≤ 1 → ended (phaseOf n) ≡ false
+waiting zero h = refl
+waiting (suc zero) h = refl
+waiting (suc (suc n)) h = absurd (omega arith)
+
+module _ (run bytes : List ℕ) (g : getD run 0 0 ≤ 1) {step : Step} (i : step ≡ stepOf (roundIn run) (answerOf bytes)) where
+  left : (s : Step) → step ≡ s → Leaves (roundIn run) s
+  unfolding roundIn
+  left s e = subst (Leaves (roundIn run)) (sym i ∙ e) (step-leaves (roundIn run) (answerOf bytes) (waiting (getD run 0 0) g))
+
+  pub read-left : (n : Round) (w : ℕ) → step ≡ Next n w → tagOf phase-type (n .phase) ≡ 1
+      → (n .phase ≡ Read) × (n .m ≡ getD run 1 0) × (n .c ≡ getD run 2 0) × (n .unresolved ≡ getD run 5 0)
+  unfolding roundIn
+  read-left n w e t = go (n .phase) t (left (Next n w) e)
+    where
+      go : (p : Phase) → tagOf phase-type p ≡ 1 → Keeps (roundIn run) p n → (p ≡ Read) × (n .m ≡ getD run 1 0) × (n .c ≡ getD run 2 0) × (n .unresolved ≡ getD run 5 0)
+      go Asked t k = absurd (let z : _≡_ {A = ℕ} 0 1 = t in omega arith)
+      go Read t k = (refl, k .0, k .1, k .2)
+      go Ended t k = absurd k
+
+  pub asked-left : (n : Round) (w : ℕ) → step ≡ Next n w → OneOf (0 ∷ 2 ∷ []) (tagOf phase-type (n .phase)) → (n .phase ≡ Asked) × (n .reads ≡ getD run 4 0)
+  unfolding roundIn
+  asked-left n w e t = go (n .phase) t (left (Next n w) e)
+    where
+      go : (p : Phase) → OneOf (0 ∷ 2 ∷ []) (tagOf phase-type p) → Keeps (roundIn run) p n → (p ≡ Asked) × (n .reads ≡ getD run 4 0)
+      go Asked t k = (refl, k)
+      go Read t k = absurd (⊎-elim (λ (z : _≡_ {A = ℕ} 1 0). omega arith) (λ (z : _≡_ {A = ℕ} 1 2). omega arith) t)
+      go Ended t k = absurd k
+
+  pub ended-left : (n : Round) (k : Counts) → step ≡ End n k → (n .phase ≡ Ended) × (n .m ≡ 12) × (n .c ≡ 0) × (n .reads ≡ getD run 4 0)
+  unfolding roundIn
+  ended-left n k e = left (End n k) e
 
 pub step-taken : (run bytes : List ℕ) → 6 ≤ length run → getD run 0 0 ≤ 1 → {step : Step} → step ≡ stepOf (roundIn run) (answerOf bytes) → (s : Step) → step ≡ s
     → (run₁ : List ℕ) → run₁ ≡ runAfter run s → (toldStep s ≡ roundAnswer run bytes) × (run₁ ≡ roundRun run bytes)

@@ -7,7 +7,7 @@ use rounds::Step;
 use search::Searched;
 ghost use mathlib.Core.Path.{_≡_};
 ghost use Prim.Native.Nat.{_≤_};
-ghost use lib.ListN.{length};
+ghost use lib.ListN.{length, getD};
 ghost use Rattle.refusals.specs.Codes.{toldCode};
 ghost use Rattle.rounds.specs.Told.{phaseNumber};
 ghost use Rattle.mvb.specs.Rounds.{phaseOf, roundIn, stored, startAnswer, startRun, roundAnswer, roundRun};
@@ -74,6 +74,40 @@ fn store(round: Round, run: &mut [u16])
     run[5] = round.unresolved;
 }
 
+// After a step only what it can have changed is stored. A round that asks: its reads are as they were.
+fn store_asked(round: Round, run: &mut [u16])
+    requires { ⌜ (6 ≤ length (now run)) × (round .phase ≡ Phase.Asked) × (round .reads ≡ getD (now run) 4 0) ⌝ }
+    ensures { λ _. ⌜ now (run .exit) ≡ stored round (now (run .entry)) ⌝ }
+{
+    run[0] = 0;
+    run[1] = round.m;
+    run[2] = round.c;
+    run[3] = round.requests;
+    run[5] = round.unresolved;
+}
+
+// A round that reads: {m, c} and its unresolved devices are as they were.
+fn store_read(round: Round, run: &mut [u16])
+    requires { ⌜ (6 ≤ length (now run)) × (round .phase ≡ Phase.Read) × (round .m ≡ getD (now run) 1 0) × (round .c ≡ getD (now run) 2 0) × (round .unresolved ≡ getD (now run) 5 0) ⌝ }
+    ensures { λ _. ⌜ now (run .exit) ≡ stored round (now (run .entry)) ⌝ }
+{
+    run[0] = 1;
+    run[3] = round.requests;
+    run[4] = round.reads;
+}
+
+// A round that ends: its reads are as they were.
+fn store_ended(round: Round, run: &mut [u16])
+    requires { ⌜ (6 ≤ length (now run)) × (round .phase ≡ Phase.Ended) × (round .m ≡ 12) × (round .c ≡ 0) × (round .reads ≡ getD (now run) 4 0) ⌝ }
+    ensures { λ _. ⌜ now (run .exit) ≡ stored round (now (run .entry)) ⌝ }
+{
+    run[0] = 2;
+    run[1] = 12;
+    run[2] = 0;
+    run[3] = round.requests;
+    run[5] = round.unresolved;
+}
+
 // Starts a round: 6 for the parameter bits, then 4 for a run too short.
 #[no_mangle]
 pub extern "C" fn mvb_round_start(params: u16, run: &mut [u16]) -> u32
@@ -126,11 +160,19 @@ pub extern "C" fn mvb_round_answer(run: &mut [u16], bytes: &[u8]) -> u32
     let step = round.answer(answer);
     match step {
         Step::Next(next, word) => {
-            store(next, run);
+            let phase = next.phase;
+            match phase {
+                Phase::Read => {
+                    store_read(next, run);
+                }
+                Phase::Asked | Phase::Ended => {
+                    store_asked(next, run);
+                }
+            }
             wide(word)
         }
         Step::End(last, _) => {
-            store(last, run);
+            store_ended(last, run);
             END
         }
         Step::Refused(r) => r.code(),

@@ -1,15 +1,17 @@
 -- `mvb::round_calls::mvb_round_answer` meets its contract.
 -- Assumes nothing.
 use mathlib.Core.Path.{_≡_, refl, ap, _∙_}
+use mathlib.Core.Logic.{⊎-elim}
 use native.Mathlib.Omega.{arith}
 use borrow.Author.Needs.{needs}
+use lib.ListN.{length}
 use Rattle.refusals.specs.declared.Refusal.the-variants.{TooShort}
 use Rattle.refusals.specs.Codes.{toldCode}
 use Rattle.refusals.proofs.Codes.{value-told, end-told, refusal-told}
 use Rattle.frames.specs.Line.{answerOf}
 use Rattle.rounds.specs.Rounds.{stepOf}
-use Rattle.mvb.specs.Rounds.{roundIn}
-use Rattle.mvb.proofs.RoundLaws.{step-4, step-ended, is-step, step-taken}
+use Rattle.mvb.specs.Rounds.{roundIn, stored}
+use Rattle.mvb.proofs.RoundLaws.{stored-length, step-4, step-ended, is-step, read-left, asked-left, ended-left, step-taken}
 use Rattle.mvb.proofs.round_calls.mvb_round_answer.Statement.{statement}
 use Rattle.mvb.proofs.round_calls.mvb_round_answer.Tie as tie
 
@@ -26,20 +28,56 @@ took c =
     let heard : tie.After-heard = c .before .before .before in
     is-step _ _ (c .before .load .ensures) (heard .heard .result) (heard .heard .ensures) (c .answer .ensures)
 
-returns-3 : tie.Need-returns-3
-returns-3 c =
-    let told : tie.After-step = c .before .before .before .before .before .before in
+store-read-requires : tie.Need-store-read-requires
+store-read-requires c κs =
+    let told : tie.After-step = c .before .before .before .before in
     let taken : tie.After-answer = told .before .before in
     let waits : tie.Else2 = taken .before .before .before .before .before in
-    let r = step-taken _ _ (waits .before .before .if1 .left) (waits .if2 .left) (took taken) _ (told .step .given .1) _ (c .before .before .before .store .ensures) in
-    (ap toldCode (c .wide .ensures) ∙ value-told (told .step .given .0 .1 .0) (omega (arith, c .before .before .before .before .before .known-told .given)) ∙ r .0, r .1)
+    let l = read-left _ _ (waits .if2 .left) (took taken) _ _ (told .step .given .1) (c .before .before .match2 .keys1) in
+    (waits .before .before .if1 .left, l .0, l .1, l .2, l .3)
+
+store-asked-requires : tie.Need-store-asked-requires
+store-asked-requires c κs =
+    let told : tie.After-step = c .before .before .before in
+    let taken : tie.After-answer = told .before .before in
+    let waits : tie.Else2 = taken .before .before .before .before .before in
+    let l = asked-left _ _ (waits .if2 .left) (took taken) _ _ (told .step .given .1) (c .before .match2 .keys2) in
+    (waits .before .before .if1 .left, l .0, l .1)
+
+store-ended-requires : tie.Need-store-ended-requires
+store-ended-requires c κs =
+    let told : tie.After-step2 = c .before .before in
+    let taken : tie.After-answer = told .before .before in
+    let waits : tie.Else2 = taken .before .before .before .before .before in
+    let l = ended-left _ _ (waits .if2 .left) (took taken) _ _ (told .step2 .given .1) in
+    (waits .before .before .if1 .left, l .0, l .1, l .2, l .3)
+
+-- whichever way the round was stored
+stored-is : (c : tie.At-match2-came) →
+    let told : tie.After-step = c .before .before in
+    c .match2 .run ≡ stored (told .step .given .0 .0) (told .before .before .before .before .before .before .before .before .before .before .before .before .args .run .now)
+stored-is c = ⊎-elim (λ w. w .6 ∙ w .3 .ensures) (λ w. w .5 ∙ w .2 .ensures) (c .match2 .came)
+
+same-length : tie.Need-same-length
+same-length c =
+    let told : tie.After-step = c .before .before .before in
+    let waits : tie.Else2 = told .before .before .before .before .before .before .before in
+    ap length (stored-is (c .before)) ∙ stored-length (waits .before .before .before .before .before .args .run .now) (told .step .given .0 .0) (waits .before .before .if1 .left)
+
+returns-3 : tie.Need-returns-3
+returns-3 c =
+    let told : tie.After-step = c .before .before .before in
+    let taken : tie.After-answer = told .before .before in
+    let waits : tie.Else2 = taken .before .before .before .before .before in
+    let r = step-taken _ _ (waits .before .before .if1 .left) (waits .if2 .left) (took taken) _ (told .step .given .1) _ (stored-is (c .before)) in
+    (ap toldCode (c .wide .ensures) ∙ value-told (told .step .given .0 .1 .0) (omega (arith, c .before .before .known-told .given)) ∙ r .0, r .1)
 
 returns-4 : tie.Need-returns-4
 returns-4 c =
     let told : tie.After-step2 = c .before .before .before .before .before in
     let taken : tie.After-answer = told .before .before in
     let waits : tie.Else2 = taken .before .before .before .before .before in
-    let r = step-taken _ _ (waits .before .before .if1 .left) (waits .if2 .left) (took taken) _ (told .step2 .given .1) _ (c .before .before .store2 .ensures) in
+    let r = step-taken _ _ (waits .before .before .if1 .left) (waits .if2 .left) (took taken) _ (told .step2 .given .1) _ (c .before .before .store-ended .ensures) in
     (end-told ∙ r .0, r .1)
 
 returns-5 : tie.Need-returns-5
@@ -63,13 +101,15 @@ mvb-round-answer-spec =
     (λ c κs. search needs)
     (λ c κs. search needs)
     (λ c. search needs)
-    (λ c κs. search needs)
+    (λ c. search needs)
+    store-read-requires
+    store-asked-requires
     (λ c κs. search needs)
     (λ c. search needs)
-    (λ c κs. search needs)
+    store-ended-requires
     (λ c. search needs)
     (λ c κs. search needs)
-    (λ c. search needs)
+    same-length
     returns-3
     (λ c. search needs)
     returns-4

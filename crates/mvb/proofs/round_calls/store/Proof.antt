@@ -8,7 +8,7 @@ use Rattle.mvb.proofs.round_calls.store.Statement.{statement}
 use Rattle.mvb.proofs.round_calls.store.Tie as tie
 
 returns : tie.Need-returns
-returns c = six-stored (c .before .before .args .run .now) (c .before .before .args .round) (c .number-of .result) (c .number-of .ensures) (c .before .before .pre)
+returns c = six-stored (c .before .before .args .run .now) (c .before .before .args .round) (c .before .before .pre) (c .number-of .result) (c .number-of .ensures)
 
 pub store-spec : {M : Type 1} → statement M
 store-spec =
