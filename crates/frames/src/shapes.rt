@@ -5,6 +5,9 @@ ghost use Prim.Native.Nat.{_+_, _*_};
 ghost use Rattle.frames.specs.Words.{fCode};
 ghost use Rattle.rows.specs.Rows.{reserved, dataBytes, blocks, blockBytes, frameBytes};
 
+// The allowed F_codes, a bit each. By its row the compiler would test the range of a word's F_code once more.
+const ALLOWED: u16 = 0xF31F;
+
 pub(crate) struct Shape {
     pub(crate) allowed: bool,
     pub(crate) data: usize,
@@ -28,8 +31,7 @@ pub(crate) fn f_code_of(word: u16) -> u8
 pub(crate) fn allowed(f_code: u8) -> bool
     ensures { λ r. ⌜ r ≡ not (reserved «f_code») ⌝ }
 {
-    let row = rows::row_of(f_code);
-    row[3] == 1
+    f_code < 16 && (ALLOWED >> f_code) % 2 == 1
 }
 
 // The row is looked up once; what else a frame needs follows from it.
