@@ -1,5 +1,6 @@
 pub mod BlockLaws
 pub mod Turns
+pub mod CopyLaws
 pub mod WordLaws
 pub mod Order
 pub mod Apart

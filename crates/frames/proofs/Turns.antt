@@ -67,12 +67,12 @@ length-part at size l h =
     omega arith
 
 lent-copy : (out src v : List ℕ) (to : ℕ) → to + length src ≤ length out
-    → v ≡ take (length src) src ++ drop (length src) (take (length out - to) (drop to out))
+    → v ≡ src ++ drop (length src) (take (length out - to) (drop to out))
     → putMid to (length out - to) out v ≡ paste out to src (length src)
 lent-copy out src v to h e =
     ap (λ (z : List ℕ). take to out ++ z)
     (ap₂ _++_
-    (e ∙ ap (λ (l : List ℕ). take (length src) src ++ l)
+    (e ∙ ap₂ _++_ (sym (take-all (length src) src (omega arith)))
     (ap (drop (length src)) (take-all (length out - to) (drop to out) (let d : length (drop to out) ≡ length out - to = length-drop to out in omega arith))
     ∙ drop-drop (length src) to out))
     (drop-drop (length out - to) to out ∙ drop-of-length-le out {i = to + (length out - to)} (omega arith))
@@ -81,7 +81,7 @@ lent-copy out src v to h e =
 
 -- what a copy of the block at `at` leaves, with `v` the lent part afterwards
 module _ (out src v : List ℕ) (at to size : ℕ) (h : at + size ≤ length src) (g : to + size ≤ length out)
-    (e : v ≡ take (length (take (at + size - at) (drop at src))) (take (at + size - at) (drop at src)) ++ drop (length (take (at + size - at) (drop at src))) (take (length out - to) (drop to out))) where
+    (e : v ≡ take (at + size - at) (drop at src) ++ drop (length (take (at + size - at) (drop at src))) (take (length out - to) (drop to out))) where
   copied : putMid to (length out - to) out v ≡ paste out to (take size (drop at src)) size
   copied =
       let l : length (take (at + size - at) (drop at src)) ≡ size = length-part at size src h in
@@ -109,7 +109,7 @@ module _ (out src v : List ℕ) (at to size : ℕ) (h : at + size ≤ length src
 
 pub copy-turn : (out₀ out frame v : List ℕ) (count at to left size : ℕ) → Going (λ k w. dataIn k size w) (size + 1) size frame out₀ out count at to left
     → 0 < left → count * size ≤ length out₀
-    → v ≡ take (length (take (at + size - at) (drop at frame))) (take (at + size - at) (drop at frame)) ++ drop (length (take (at + size - at) (drop at frame))) (take (length out - to) (drop to out))
+    → v ≡ take (at + size - at) (drop at frame) ++ drop (length (take (at + size - at) (drop at frame))) (take (length out - to) (drop to out))
     → Going (λ k w. dataIn k size w) (size + 1) size frame out₀ (putMid to (length out - to) out v) count (at + size + 1) (to + size) (left - 1)
 copy-turn out₀ out frame v count at to left size g some r e =
     let i : at + size ≤ length frame = omega (arith, going-in g some) in
@@ -140,7 +140,7 @@ write-room out₀ out d count at to left size g some r = omega (arith, going-out
 
 pub write-turn : (out₀ out d v : List ℕ) (count at to left size check : ℕ) → Going (λ k w. framed k size w) size (size + 1) d out₀ out count at to left
     → 0 < left → count * (size + 1) ≤ length out₀
-    → v ≡ take (length (take (at + size - at) (drop at d))) (take (at + size - at) (drop at d)) ++ drop (length (take (at + size - at) (drop at d))) (take (length out - to) (drop to out))
+    → v ≡ take (at + size - at) (drop at d) ++ drop (length (take (at + size - at) (drop at d))) (take (length out - to) (drop to out))
     → check ≡ checkOf (take (at + size - at) (drop at d))
     → Going (λ k w. framed k size w) size (size + 1) d out₀ (set (putMid to (length out - to) out v) (to + size) check) count (at + size) (to + size + 1) (left - 1)
 write-turn out₀ out d v count at to left size check g some r e c =

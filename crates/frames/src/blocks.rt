@@ -3,7 +3,7 @@ use crate::shapes::word_of;
 ghost use mathlib.Core.Path.{_≡_};
 ghost use mathlib.Core.List.{_++_};
 ghost use Prim.Native.Nat.{_+_, _*_, _≤_};
-ghost use lib.ListN.{length, drop};
+ghost use lib.ListN.{length, take, drop};
 ghost use Rattle.frames.specs.Words.{wordBytes};
 ghost use Rattle.frames.specs.Blocks.{rightBlocks, dataIn, framed};
 
@@ -73,11 +73,39 @@ fn copy_run(frame: &[u8], count: usize, size: usize, out: &mut [u8])
     let mut left = count;
     while 0 < left {
         let end = at + size;
-        bytes::copy(&frame[at..end], &mut out[to..]);
+        copy_block(&frame[at..end], &mut out[to..]);
         at = end + 1;
         to += size;
         left -= 1;
     }
+}
+
+// Copies a block. Eight bytes are copied four at a time, all read before one is written: so the compiler moves them
+// at once, whatever the two runs have to do with each other.
+fn copy_block(from: &[u8], to: &mut [u8])
+    requires { ⌜ length (now from) ≤ length (now to) ⌝ }
+    ensures { λ _. ⌜ now (to .exit) ≡ now (from .entry) ++ drop (length (now (from .entry))) (now (to .entry)) ⌝ }
+{
+    if from.len() == 8 {
+        copy_four(from, to);
+        copy_four(&from[4..], &mut to[4..]);
+    } else {
+        bytes::copy(from, to);
+    }
+}
+
+fn copy_four(from: &[u8], to: &mut [u8])
+    requires { ⌜ (4 ≤ length (now from)) × (4 ≤ length (now to)) ⌝ }
+    ensures { λ _. ⌜ now (to .exit) ≡ take 4 (now (from .entry)) ++ drop 4 (now (to .entry)) ⌝ }
+{
+    let first = from[0];
+    let second = from[1];
+    let third = from[2];
+    let fourth = from[3];
+    to[0] = first;
+    to[1] = second;
+    to[2] = third;
+    to[3] = fourth;
 }
 
 // The data of a word's frame.
@@ -112,8 +140,8 @@ fn write_run(data: &[u8], count: usize, size: usize, out: &mut [u8])
     let mut left = count;
     while 0 < left {
         let end = at + size;
-        bytes::copy(&data[at..end], &mut out[to..]);
         let check = checks::check_of(&data[at..end]);
+        copy_block(&data[at..end], &mut out[to..]);
         let last = to + size;
         out[last] = check;
         at = end;

@@ -25,7 +25,7 @@ in-out c = going-out (c .before .loop .inv) (c .loop-test .taken) (c .before .be
 loop-again : tie.Need-loop-again Inv-loop μ-loop
 loop-again c =
     copy-turn _ _ _ _ _ _ _ _ _ (c .before .before .before .before .before .before .loop .inv) (c .before .before .before .before .before .loop-test .taken)
-    (c .before .before .before .before .before .before .before .before .before .pre .1) (c .before .before .copy .ensures .1)
+    (c .before .before .before .before .before .before .before .before .before .pre .1) (c .before .before .copy-block .ensures)
 
 returns : tie.Need-returns Inv-loop μ-loop
 returns c =

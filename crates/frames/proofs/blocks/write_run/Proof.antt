@@ -29,14 +29,14 @@ slice-write-out c =
     omega (
       arith,
       in-out place,
-      copied-length (place .before .loop .out) (place .before .before .before .before .args .«data» .now) (c .before .before .before .before .copy .last .1 .0) (place .before .loop .at) (place .before .loop .to) (place .before .before .before .before .args .size)
-          (in-data place) (omega (arith, in-out place)) (c .before .before .before .before .copy .ensures .1),
+      copied-length (place .before .loop .out) (place .before .before .before .before .args .«data» .now) (c .before .before .copy-block .last .1 .0) (place .before .loop .at) (place .before .loop .to) (place .before .before .before .before .args .size)
+          (in-data place) (omega (arith, in-out place)) (c .before .before .copy-block .ensures),
     )
 
 loop-again : tie.Need-loop-again Inv-loop μ-loop
 loop-again c =
     write-turn _ _ _ _ _ _ _ _ _ _ (c .before .before .before .before .before .before .before .before .loop .inv) (c .before .before .before .before .before .before .before .loop-test .taken)
-    (c .before .before .before .before .before .before .before .before .before .before .before .pre .1) (c .before .before .before .before .copy .ensures .1) (c .check-of .ensures)
+    (c .before .before .before .before .before .before .before .before .before .before .before .pre .1) (c .before .before .copy-block .ensures) (c .before .before .before .before .before .check-of .ensures)
 
 returns : tie.Need-returns Inv-loop μ-loop
 returns c =
@@ -54,14 +54,14 @@ write-run-spec =
     (λ c. omega arith)
     (λ c. search needs)
     (λ c. omega (arith, in-data c))
-    (λ c. omega (arith, in-out (c .before)))
-    (λ c. omega (arith, in-out (c .before)))
-    (λ c. search needs)
-    (λ c κs. simp (length-take, length-drop) (omega (arith, in-data (c .before .before), in-out (c .before .before))))
+    (λ c κs. tt)
     (λ c. omega arith)
     (λ c. search needs)
-    (λ c. omega (arith, in-data (c .before .before .before .before .before)))
-    (λ c κs. tt)
+    (λ c. omega (arith, in-data (c .before .before)))
+    (λ c. omega (arith, in-out (c .before .before .before)))
+    (λ c. omega (arith, in-out (c .before .before .before)))
+    (λ c. search needs)
+    (λ c κs. simp (length-take, length-drop) (omega (arith, in-data (c .before .before .before .before), in-out (c .before .before .before .before))))
     (λ c. omega (arith, in-out (c .before .before .before .before .before .before .before)))
     slice-write-out
     (λ c. omega (arith, in-out (c .before .before .before .before .before .before .before)))
