@@ -3,6 +3,7 @@
 use crate::Tested;
 ghost use mathlib.Core.Path.{_≡_};
 ghost use mathlib.Core.Bool.{true, false};
+ghost use Prim.Native.Nat.{_%_};
 ghost use Rattle.port_table.specs.Tested.{emptyTested};
 ghost use Rattle.port_table.specs.Inside.{emptyTaken, sinkBit, OnTake, TakenOn, Tells};
 
@@ -43,6 +44,29 @@ fn sink_bit(sink: u8) -> u64
     ensures { λ r. ⌜ r ≡ sinkBit sink ⌝ }
 {
     if sink == 0 { 0 } else { 1 }
+}
+
+// Record i, by its fields, where it is no part's first: nothing is put away. What it has in common with `step` is written
+// out in both: by a function of its own the machine code would copy the parts for every record.
+pub(crate) fn beside(taken: Taken, i: usize, address: u16, f_code: u8, sink: u8) -> Taken
+    requires { ⌜ OnTake taken i × ((i % 64 ≡ 0) → ⊥) ⌝ }
+    ensures { λ r. ⌜ TakenOn taken i address «f_code» sink r ⌝ }
+{
+    let limit = address as u32;
+    if taken.limit <= limit {
+        return out_of_order();
+    }
+    if 5 <= f_code {
+        return out_of_order();
+    }
+    let part = taken.part * 2 + sink_bit(sink);
+    let parts = taken.parts;
+    Taken {
+        good: taken.good,
+        limit,
+        part,
+        parts,
+    }
 }
 
 // Record i, by its fields: they are compared where they lie. The index of a full part stands before the copy of the
