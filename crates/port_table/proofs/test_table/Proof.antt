@@ -305,9 +305,10 @@ module _ {M : Type 1} (𝓤 : URA M) (H : Heap 𝓤) (A : Atoms 𝓤) (W : Given
             assigns ! (bin ! (lit ! tt) (load ! (from ! (stop !)) (look ! 51 refl)) tt) (from ! (stop !)) (init ! 27 refl (tt, tt)) $
             rewrite ! 27 (λ (f : Bool). ‵ (fat fullShare tyBool l₁₅ 0 (vbool f))) (lt-ltb 0 (suc (suc i)) (omega arith)) refl $
             stays ! (load ! (from ! (stop !)) (look ! 27 refl)) $
-            assigns ! (bin ! (load ! (from ! (stop !)) (look ! 51 refl)) (lit ! tt) (omega arith)) (from ! (stop !)) (store ! 51 refl (tt, record { fits = (less-fits (suc i) small) })) $
+            -- the upper one of the two
+            assigns ! (bin ! (load ! (from ! (stop !)) (look ! 51 refl)) (lit ! tt) (omega arith)) (from ! (stop !)) (store ! 51 refl (tt, record { fits = less-fits (suc i) small })) $
             rewrite ! 51 (λ (j : ℕ). ‵ (fat fullShare word l₃ 0 (vint w64 j))) (less (suc i)) refl $
-            assigns ! (bin ! (load ! (from ! (stop !)) (look ! 51 refl)) (lit ! tt) (record { fits = (times-fits (suc i) small) })) (from ! (stop !)) (init ! 25 refl (tt, record { fits = (times-fits (suc i) small) })) $
+            assigns ! (bin ! (load ! (from ! (stop !)) (look ! 51 refl)) (lit ! tt) (record { fits = times-fits (suc i) small })) (from ! (stop !)) (init ! 25 refl (tt, record { fits = times-fits (suc i) small })) $
             assigns ! (bin ! (load ! (from ! (fld ! refl (stop !))) (look-in ! 55 (sub ! 0 refl (whole !)))) (load ! (from ! (stop !)) (look ! 25 refl)) tt) (from ! (stop !)) (init ! 23 refl (tt, tt)) $
             rewrite ! 23 (λ (p : ℕ). ‵ (fat fullShare tyPtr l₁₇ 0 (vptr b p))) (sym (place-is 4 o (suc i))) refl $
             -- the slice is Copy: of one copy of what it owns the fractured borrow is looked into
@@ -317,11 +318,11 @@ module _ {M : Type 1} (𝓤 : URA M) (H : Heap 𝓤) (A : Atoms 𝓤) (W : Given
             elem-out ! P.the-row (Is P.the-row) (shows 𝓤 H A P.the-row) (LL.vals P.the-type P′.the-laws) (LL.tells P.the-type P′.the-laws) q₁ ys (suc i) noPort b o (in-row (suc i) small) (λ g₁.
             -- [the record; what it owns; the others; what shuts; the fractured borrow; Own; what t owns; _27; …]
             assigns ! (of-opd ! (load ! (from ! (hop ! (look ! 27 refl) (fld ! refl (stop !)))) (look-in ! 0 (sub ! 0 refl (whole !))))) (from ! (stop !)) (init ! 25 refl (tt, typed (suc i) g₁ .0)) $
-            assigns ! (bin ! (load ! (from ! (stop !)) (look ! 55 refl)) (lit ! tt) (record { fits = (times-fits (suc i) small) })) (from ! (stop !)) (init ! 23 refl (tt, record { fits = (times-fits (suc i) small) })) $
+            assigns ! (bin ! (load ! (from ! (stop !)) (look ! 55 refl)) (lit ! tt) (record { fits = times-fits (suc i) small })) (from ! (stop !)) (init ! 23 refl (tt, record { fits = times-fits (suc i) small })) $
             assigns ! (bin ! (load ! (from ! (fld ! refl (stop !))) (look-in ! 59 (sub ! 0 refl (whole !)))) (load ! (from ! (stop !)) (look ! 23 refl)) tt) (from ! (stop !)) (init ! 21 refl (tt, tt)) $
             rewrite ! 21 (λ (p : ℕ). ‵ (fat fullShare tyPtr l₂₀ 0 (vptr b p))) (sym (place-is 4 o (suc i))) refl $
             assigns ! (of-opd ! (load ! (from ! (hop ! (look ! 21 refl) (fld ! refl (stop !)))) (look-in ! 0 (sub ! 1 refl (whole !))))) (from ! (stop !)) (init ! 19 refl (tt, typed (suc i) g₁ .1 .0)) $
-            assigns ! (bin ! (load ! (from ! (stop !)) (look ! 55 refl)) (lit ! tt) (record { fits = (times-fits (suc i) small) })) (from ! (stop !)) (init ! 17 refl (tt, record { fits = (times-fits (suc i) small) })) $
+            assigns ! (bin ! (load ! (from ! (stop !)) (look ! 55 refl)) (lit ! tt) (record { fits = times-fits (suc i) small })) (from ! (stop !)) (init ! 17 refl (tt, record { fits = times-fits (suc i) small })) $
             assigns ! (bin ! (load ! (from ! (fld ! refl (stop !))) (look-in ! 59 (sub ! 0 refl (whole !)))) (load ! (from ! (stop !)) (look ! 17 refl)) tt) (from ! (stop !)) (init ! 15 refl (tt, tt)) $
             rewrite ! 15 (λ (p : ℕ). ‵ (fat fullShare tyPtr l₂₃ 0 (vptr b p))) (sym (place-is 4 o (suc i))) refl $
             assigns ! (of-opd ! (load ! (from ! (hop ! (look ! 15 refl) (fld ! refl (stop !)))) (look-in ! 0 (sub ! 2 refl (whole !))))) (from ! (stop !)) (init ! 13 refl (tt, typed (suc i) g₁ .1 .1 .0)) $
@@ -329,14 +330,15 @@ module _ {M : Type 1} (𝓤 : URA M) (H : Heap 𝓤) (A : Atoms 𝓤) (W : Given
             -- [the token; the fractured borrow; Own; what t owns; _27; …]
             move ! (1 ∷ []) $ lose ! $ move ! (2 ∷ []) $ use1 W (raw (Beside 𝓤 H A mem run .pre (to-beside t u (suc i) (p (suc i))))) (goes-beside t u (suc i) (p (suc i)) (i-fits (suc i) small) (typed (suc i) g₁ .0 .fits) (typed (suc i) g₁ .1 .0 .fits) (typed (suc i) g₁ .1 .1 .0 .fits) (onto (suc i) t small k₀, odd)) $
             calls-at ! (fmOf 𝓤 H (W .laws) 𝓣) (Beside 𝓤 H A mem run) known-beside (to-beside t u (suc i) (p (suc i))) (and-then ! (load ! (from ! (stop !)) (look ! 53 refl)) (and-then ! (load ! (from ! (stop !)) (look ! 51 refl)) (and-then ! (load ! (from ! (stop !)) (look ! 21 refl)) (and-then ! (load ! (from ! (stop !)) (look ! 15 refl)) (and-then ! (load ! (from ! (stop !)) (look ! 9 refl)) (no-more !)))))) (λ u₁.
-            use1 W (later (some (λ (r₁ : Taken). (‵ ftrue ⊛ ‵ (Has r₁ u₁)) ⊛ raw (ensured 𝓤 H A beside.ended (beside.clauses 𝓤 H A mem run) tt (t, ((suc i), fields (p (suc i)))) tt r₁)))) (id⊢ 𝓤 _) $ await ! tt $ pick ! (λ r₁.
+            use1 W (later (some (λ (r₁ : Taken). (‵ ftrue ⊛ ‵ (Has r₁ u₁)) ⊛ raw (ensured 𝓤 H A beside.ended (beside.clauses 𝓤 H A mem run) tt (t, (suc i, fields (p (suc i)))) tt r₁)))) (id⊢ 𝓤 _) $ await ! tt $ pick ! (λ r₁.
             split ! $ move ! (1 ∷ []) $ use1 W (raw (fact 𝓤 (TakenOn t (suc i) (p (suc i) .address) (p (suc i) .«f_code») (p (suc i) .sink) r₁))) (beside-said 𝓤 H A mem run t (suc i) (p (suc i)) r₁) $ heard ! (TakenOn t (suc i) (p (suc i) .address) (p (suc i) .«f_code») (p (suc i) .sink) r₁) (λ e₁. split ! $ lose ! $
             peeks ! K.the-row (Is K.the-row) (shows 𝓤 H A K.the-row) r₁ (u₁ ∷ []) (λ is₁.
             land ! (from ! (stop !)) (store ! 53 refl (LL.lawful K.the-type K′.the-laws 𝓤 H A W .typed r₁ _ is₁ .0)) $
             forget ! 9 refl $ forget ! 11 refl $ forget ! 13 refl $ forget ! 15 refl $ forget ! 17 refl $ forget ! 19 refl $ forget ! 21 refl $ forget ! 23 refl $ forget ! 25 refl $
-            assigns ! (bin ! (load ! (from ! (stop !)) (look ! 51 refl)) (lit ! tt) (omega arith)) (from ! (stop !)) (store ! 51 refl (tt, record { fits = (less-fits i low) })) $
+            -- the lower one
+            assigns ! (bin ! (load ! (from ! (stop !)) (look ! 51 refl)) (lit ! tt) (omega arith)) (from ! (stop !)) (store ! 51 refl (tt, record { fits = less-fits i low })) $
             rewrite ! 51 (λ (j : ℕ). ‵ (fat fullShare word l₃ 0 (vint w64 j))) (less i) refl $
-            assigns ! (bin ! (load ! (from ! (stop !)) (look ! 51 refl)) (lit ! tt) (record { fits = (times-fits i low) })) (from ! (stop !)) (init ! 25 refl (tt, record { fits = (times-fits i low) })) $
+            assigns ! (bin ! (load ! (from ! (stop !)) (look ! 51 refl)) (lit ! tt) (record { fits = times-fits i low })) (from ! (stop !)) (init ! 25 refl (tt, record { fits = times-fits i low })) $
             assigns ! (bin ! (load ! (from ! (fld ! refl (stop !))) (look-in ! 55 (sub ! 0 refl (whole !)))) (load ! (from ! (stop !)) (look ! 25 refl)) tt) (from ! (stop !)) (init ! 7 refl (tt, tt)) $
             rewrite ! 7 (λ (p : ℕ). ‵ (fat fullShare tyPtr l₂₅ 0 (vptr b p))) (sym (place-is 4 o i)) refl $
             move ! (2 ∷ []) $ use1 W (‵ Own ⊛ ‵ Own) (shr-slice-copy 𝓤 H A W (named 0) κ P.the-row .twice x (v ∷ [])) $ split ! $
@@ -344,11 +346,11 @@ module _ {M : Type 1} (𝓤 : URA M) (H : Heap 𝓤) (A : Atoms 𝓤) (W : Given
             looks-slice ! tt P.the-row (Is P.the-row) (shows 𝓤 H A P.the-row) (LL.vals P.the-type P′.the-laws) (LL.tells P.the-type P′.the-laws) (LL.copy P.the-type P′.the-copy 𝓤 H A W) ys b o (λ q₂.
             elem-out ! P.the-row (Is P.the-row) (shows 𝓤 H A P.the-row) (LL.vals P.the-type P′.the-laws) (LL.tells P.the-type P′.the-laws) q₂ ys i noPort b o (in-row i low) (λ g₂.
             assigns ! (of-opd ! (load ! (from ! (hop ! (look ! 11 refl) (fld ! refl (stop !)))) (look-in ! 0 (sub ! 0 refl (whole !))))) (from ! (stop !)) (init ! 25 refl (tt, typed i g₂ .0)) $
-            assigns ! (bin ! (load ! (from ! (stop !)) (look ! 55 refl)) (lit ! tt) (record { fits = (times-fits i low) })) (from ! (stop !)) (init ! 17 refl (tt, record { fits = (times-fits i low) })) $
+            assigns ! (bin ! (load ! (from ! (stop !)) (look ! 55 refl)) (lit ! tt) (record { fits = times-fits i low })) (from ! (stop !)) (init ! 17 refl (tt, record { fits = times-fits i low })) $
             assigns ! (bin ! (load ! (from ! (fld ! refl (stop !))) (look-in ! 59 (sub ! 0 refl (whole !)))) (load ! (from ! (stop !)) (look ! 17 refl)) tt) (from ! (stop !)) (init ! 9 refl (tt, tt)) $
             rewrite ! 9 (λ (p : ℕ). ‵ (fat fullShare tyPtr l₂₆ 0 (vptr b p))) (sym (place-is 4 o i)) refl $
             assigns ! (of-opd ! (load ! (from ! (hop ! (look ! 9 refl) (fld ! refl (stop !)))) (look-in ! 0 (sub ! 1 refl (whole !))))) (from ! (stop !)) (init ! 13 refl (tt, typed i g₂ .1 .0)) $
-            assigns ! (bin ! (load ! (from ! (stop !)) (look ! 55 refl)) (lit ! tt) (record { fits = (times-fits i low) })) (from ! (stop !)) (init ! 23 refl (tt, record { fits = (times-fits i low) })) $
+            assigns ! (bin ! (load ! (from ! (stop !)) (look ! 55 refl)) (lit ! tt) (record { fits = times-fits i low })) (from ! (stop !)) (init ! 23 refl (tt, record { fits = times-fits i low })) $
             assigns ! (bin ! (load ! (from ! (fld ! refl (stop !))) (look-in ! 59 (sub ! 0 refl (whole !)))) (load ! (from ! (stop !)) (look ! 23 refl)) tt) (from ! (stop !)) (init ! 7 refl (tt, tt)) $
             rewrite ! 7 (λ (p : ℕ). ‵ (fat fullShare tyPtr l₂₇ 0 (vptr b p))) (sym (place-is 4 o i)) refl $
             assigns ! (of-opd ! (load ! (from ! (hop ! (look ! 7 refl) (fld ! refl (stop !)))) (look-in ! 0 (sub ! 2 refl (whole !))))) (from ! (stop !)) (init ! 19 refl (tt, typed i g₂ .1 .1 .0)) $
@@ -415,8 +417,8 @@ module _ {M : Type 1} (𝓤 : URA M) (H : Heap 𝓤) (A : Atoms 𝓤) (W : Given
             assigns ! (bin ! (load ! (from ! (stop !)) (look ! 49 refl)) (lit ! tt) tt) (from ! (stop !)) (init ! 47 refl (tt, tt)) $
             first ! $ branches ! (load ! (from ! (stop !)) (look ! 47 refl))
             (λ odd.
-            assigns ! (bin ! (load ! (from ! (stop !)) (look ! 51 refl)) (lit ! tt) (some-left odd)) (from ! (stop !)) (store ! 51 refl (tt, record { fits = (i-fits (c - 1) (last odd)) })) $
-            assigns ! (bin ! (load ! (from ! (stop !)) (look ! 51 refl)) (lit ! tt) (record { fits = (times-fits (c - 1) (last odd)) })) (from ! (stop !)) (init ! 45 refl (tt, record { fits = (times-fits (c - 1) (last odd)) })) $
+            assigns ! (bin ! (load ! (from ! (stop !)) (look ! 51 refl)) (lit ! tt) (some-left odd)) (from ! (stop !)) (store ! 51 refl (tt, record { fits = i-fits (c - 1) (last odd) })) $
+            assigns ! (bin ! (load ! (from ! (stop !)) (look ! 51 refl)) (lit ! tt) (record { fits = times-fits (c - 1) (last odd) })) (from ! (stop !)) (init ! 45 refl (tt, record { fits = times-fits (c - 1) (last odd) })) $
             assigns ! (bin ! (load ! (from ! (fld ! refl (stop !))) (look-in ! 55 (sub ! 0 refl (whole !)))) (load ! (from ! (stop !)) (look ! 45 refl)) tt) (from ! (stop !)) (init ! 43 refl (tt, tt)) $
             rewrite ! 43 (λ (p : ℕ). ‵ (fat fullShare tyPtr l₇ 0 (vptr b p))) (sym (place-is 4 o (c - 1))) refl $
             move ! (2 ∷ []) $ use1 W (‵ Own ⊛ ‵ Own) (shr-slice-copy 𝓤 H A W (named 0) κ P.the-row .twice x (v ∷ [])) $ split ! $
@@ -424,18 +426,18 @@ module _ {M : Type 1} (𝓤 : URA M) (H : Heap 𝓤) (A : Atoms 𝓤) (W : Given
             looks-slice ! tt P.the-row (Is P.the-row) (shows 𝓤 H A P.the-row) (LL.vals P.the-type P′.the-laws) (LL.tells P.the-type P′.the-laws) (LL.copy P.the-type P′.the-copy 𝓤 H A W) ys b o (λ q₀.
             elem-out ! P.the-row (Is P.the-row) (shows 𝓤 H A P.the-row) (LL.vals P.the-type P′.the-laws) (LL.tells P.the-type P′.the-laws) q₀ ys (c - 1) noPort b o (in-row (c - 1) (last odd)) (λ g₀.
             assigns ! (of-opd ! (load ! (from ! (hop ! (look ! 47 refl) (fld ! refl (stop !)))) (look-in ! 0 (sub ! 0 refl (whole !))))) (from ! (stop !)) (init ! 45 refl (tt, typed (c - 1) g₀ .0)) $
-            assigns ! (bin ! (load ! (from ! (stop !)) (look ! 55 refl)) (lit ! tt) (record { fits = (times-fits (c - 1) (last odd)) })) (from ! (stop !)) (init ! 43 refl (tt, record { fits = (times-fits (c - 1) (last odd)) })) $
+            assigns ! (bin ! (load ! (from ! (stop !)) (look ! 55 refl)) (lit ! tt) (record { fits = times-fits (c - 1) (last odd) })) (from ! (stop !)) (init ! 43 refl (tt, record { fits = times-fits (c - 1) (last odd) })) $
             assigns ! (bin ! (load ! (from ! (fld ! refl (stop !))) (look-in ! 59 (sub ! 0 refl (whole !)))) (load ! (from ! (stop !)) (look ! 43 refl)) tt) (from ! (stop !)) (init ! 41 refl (tt, tt)) $
             rewrite ! 41 (λ (p : ℕ). ‵ (fat fullShare tyPtr l₁₀ 0 (vptr b p))) (sym (place-is 4 o (c - 1))) refl $
             assigns ! (of-opd ! (load ! (from ! (hop ! (look ! 41 refl) (fld ! refl (stop !)))) (look-in ! 0 (sub ! 1 refl (whole !))))) (from ! (stop !)) (init ! 39 refl (tt, typed (c - 1) g₀ .1 .0)) $
-            assigns ! (bin ! (load ! (from ! (stop !)) (look ! 55 refl)) (lit ! tt) (record { fits = (times-fits (c - 1) (last odd)) })) (from ! (stop !)) (init ! 37 refl (tt, record { fits = (times-fits (c - 1) (last odd)) })) $
+            assigns ! (bin ! (load ! (from ! (stop !)) (look ! 55 refl)) (lit ! tt) (record { fits = times-fits (c - 1) (last odd) })) (from ! (stop !)) (init ! 37 refl (tt, record { fits = times-fits (c - 1) (last odd) })) $
             assigns ! (bin ! (load ! (from ! (fld ! refl (stop !))) (look-in ! 59 (sub ! 0 refl (whole !)))) (load ! (from ! (stop !)) (look ! 37 refl)) tt) (from ! (stop !)) (init ! 35 refl (tt, tt)) $
             rewrite ! 35 (λ (p : ℕ). ‵ (fat fullShare tyPtr l₁₃ 0 (vptr b p))) (sym (place-is 4 o (c - 1))) refl $
             assigns ! (of-opd ! (load ! (from ! (hop ! (look ! 35 refl) (fld ! refl (stop !)))) (look-in ! 0 (sub ! 2 refl (whole !))))) (from ! (stop !)) (init ! 33 refl (tt, typed (c - 1) g₀ .1 .1 .0)) $
             elem-back ! P.the-row q₀ ys (c - 1) noPort (w (c - 1) ∷ []) b o (in-row (c - 1) (last odd)) $ shuts-slice ! tt P.the-row q₀ ys b o $
             move ! (1 ∷ []) $ lose ! $ move ! (2 ∷ []) $ use1 W (raw (Step 𝓤 H A mem run .pre (to-step t u (c - 1) (p (c - 1))))) (goes-step t u (c - 1) (p (c - 1)) (i-fits (c - 1) (last odd)) (typed (c - 1) g₀ .0 .fits) (typed (c - 1) g₀ .1 .0 .fits) (typed (c - 1) g₀ .1 .1 .0 .fits) (onto (c - 1) t (last odd) (behind odd))) $
             calls-at-last ! (fmOf 𝓤 H (W .laws) 𝓣) (Step 𝓤 H A mem run) known-step (to-step t u (c - 1) (p (c - 1))) (and-then ! (load ! (from ! (stop !)) (look ! 53 refl)) (and-then ! (load ! (from ! (stop !)) (look ! 51 refl)) (and-then ! (load ! (from ! (stop !)) (look ! 41 refl)) (and-then ! (load ! (from ! (stop !)) (look ! 35 refl)) (and-then ! (load ! (from ! (stop !)) (look ! 29 refl)) (no-more !)))))) (λ u₀.
-            use1 W (later (some (λ (r₀ : Taken). (‵ ftrue ⊛ ‵ (Has r₀ u₀)) ⊛ raw (ensured 𝓤 H A step.ended (step.clauses 𝓤 H A mem run) tt (t, ((c - 1), fields (p (c - 1)))) tt r₀)))) (id⊢ 𝓤 _) $ await ! tt $ pick ! (λ r₀.
+            use1 W (later (some (λ (r₀ : Taken). (‵ ftrue ⊛ ‵ (Has r₀ u₀)) ⊛ raw (ensured 𝓤 H A step.ended (step.clauses 𝓤 H A mem run) tt (t, (c - 1, fields (p (c - 1)))) tt r₀)))) (id⊢ 𝓤 _) $ await ! tt $ pick ! (λ r₀.
             split ! $ move ! (1 ∷ []) $ use1 W (raw (fact 𝓤 (TakenOn t (c - 1) (p (c - 1) .address) (p (c - 1) .«f_code») (p (c - 1) .sink) r₀))) (step-said 𝓤 H A mem run t (c - 1) (p (c - 1)) r₀) $ heard ! (TakenOn t (c - 1) (p (c - 1) .address) (p (c - 1) .«f_code») (p (c - 1) .sink) r₀) (λ e₀. split ! $ lose ! $
             peeks ! K.the-row (Is K.the-row) (shows 𝓤 H A K.the-row) r₀ (u₀ ∷ []) (λ is₀.
             land-last ! (from ! (stop !)) (store ! 53 refl (LL.lawful K.the-type K′.the-laws 𝓤 H A W .typed r₀ _ is₀ .0)) $
