@@ -2,7 +2,7 @@
 -- Assumes nothing.
 use mathlib.Core.Path.{_≡_, refl, sym, ap, ap₂, subst, _∙_}
 use mathlib.Core.Bool.{Bool, true, false, cond}
-use mathlib.Core.List.{List, [], _∷_}
+use mathlib.Core.List.{List, [], _∷_, _++_}
 use mathlib.Core.Logic.{⊎-elim}
 use Prim.Native.Nat.{ℕ, zero, suc, _/_, _≤_, _<_}
 use native.Mathlib.Omega.{arith}
@@ -28,7 +28,7 @@ use Rattle.rounds.specs.declared.Round.{Round}
 use Rattle.rounds.specs.declared.Step.{Step}
 use Rattle.rounds.specs.declared.Step.the-variants.{Next, End, Refused}
 use Rattle.rounds.specs.Rounds.{Verdict, nobody, named, unclear, judge, countsOf, none, oneRequest, oneUnresolved, round, stand, split, heard, impossible, ended, reading, stepBy, stepOf, startOf}
-use Rattle.rounds.specs.Told.{phaseNumber, told}
+use Rattle.rounds.specs.Told.{phaseNumber, roundValues, told}
 use Rattle.rounds.proofs.Phase.{the-type as phase-type}
 use Rattle.rounds.proofs.Apart.{steps-apart}
 use Rattle.mvb.specs.Rounds.{phaseOf, roundIn, stored, toldStep, runAfter, startAnswer, startRun, roundAnswer, roundRun}
@@ -74,11 +74,12 @@ module _ (run : List ℕ) (r : Round) (h : 6 ≤ length run) where
   pub stored-length : length (stored r run) ≡ length run
   stored-length = sym (ap length (six run h))
 
-  pub six-stored : (n : ℕ) → n ≡ phaseNumber (r .phase)
-      → set (set (set (set (set (set run 0 n) 1 (r .m)) 2 (r .c)) 3 (r .requests)) 4 (r .reads)) 5 (r .unresolved) ≡ stored r run
-  six-stored n e =
-      ap (λ (l : List ℕ). set (set (set (set (set (set l 0 n) 1 (r .m)) 2 (r .c)) 3 (r .requests)) 4 (r .reads)) 5 (r .unresolved)) (six run h)
-      ∙ stored-as run r e refl refl refl refl refl
+  -- with the reads written first
+  pub reads-written : (d : ℕ) → d ≡ getD (set run 4 d) 4 0
+  reads-written d = sym (ap (λ (l : List ℕ). getD (set l 4 d) 4 0) (six run h))
+
+  pub reads-first : (d : ℕ) → stored r (set run 4 d) ≡ stored r run
+  reads-first d = ap (λ (l : List ℕ). roundValues r ++ drop 6 (set l 4 d)) (six run h)
 
   pub asked-stored : r .phase ≡ Asked → r .reads ≡ getD run 4 0 → set (set (set (set (set run 0 0) 1 (r .m)) 2 (r .c)) 3 (r .requests)) 5 (r .unresolved) ≡ stored r run
   asked-stored p d =
@@ -232,6 +233,12 @@ step-taken run bytes h g i s e run₁ e₁ = (
 abbrev begun : ℕ → Step
 begun params = Next (round Asked 12 0 none) (requestWord params 12 0)
 
+-- what a step goes to
+abbrev phaseAfter : Step → Phase
+phaseAfter (Next r w) = r .phase
+phaseAfter (End r k) = r .phase
+phaseAfter (Refused n) = Ended
+
 module _ (params : ℕ) (run : List ℕ) {step : Step} (es : told step ≡ told (startOf params)) where
   started : step ≡ startOf params
   started = steps-apart step (startOf params) es
@@ -244,6 +251,10 @@ module _ (params : ℕ) (run : List ℕ) {step : Step} (es : told step ≡ told 
       go : (b : Bool) → Next r w ≡ cond b (Refused OutOfRange) (begun params) → b ≡ false
       go true q = absurd (let z : _≡_ {A = ℕ} 0 1 = cc in omega arith)
       go false q = refl
+
+  pub start-asks : (r : Round) (w : ℕ) → step ≡ Next r w → r .phase ≡ Asked
+  unfolding startOf
+  start-asks r w e = ap phaseAfter (sym e ∙ started) ∙ simp (within r w e)
 
   pub start-4 : (r : Round) (w : ℕ) → step ≡ Next r w → length run < 6 → (refusal 4 ≡ startAnswer params (length run)) × (run ≡ startRun params run)
   unfolding startAnswer startRun

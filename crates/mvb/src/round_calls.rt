@@ -9,7 +9,6 @@ ghost use mathlib.Core.Path.{_≡_};
 ghost use Prim.Native.Nat.{_≤_};
 ghost use lib.ListN.{length, getD};
 ghost use Rattle.refusals.specs.Codes.{toldCode};
-ghost use Rattle.rounds.specs.Told.{phaseNumber};
 ghost use Rattle.mvb.specs.Rounds.{phaseOf, roundIn, stored, startAnswer, startRun, roundAnswer, roundRun};
 ghost use Rattle.mvb.specs.Inside.{AsHeard};
 ghost use Rattle.search.specs.Searches.{written};
@@ -37,16 +36,6 @@ fn phase_of(number: u16) -> Phase
     }
 }
 
-fn number_of(phase: Phase) -> u16
-    ensures { λ r. ⌜ r ≡ phaseNumber phase ⌝ }
-{
-    match phase {
-        Phase::Asked => 0,
-        Phase::Read => 1,
-        Phase::Ended => 2,
-    }
-}
-
 fn load(run: &[u16]) -> Round
     requires { ⌜ 6 ≤ length (now run) ⌝ }
     ensures { λ r. ⌜ r ≡ roundIn (now (run .entry)) ⌝ }
@@ -59,19 +48,6 @@ fn load(run: &[u16]) -> Round
         reads: run[4],
         unresolved: run[5],
     }
-}
-
-fn store(round: Round, run: &mut [u16])
-    requires { ⌜ 6 ≤ length (now run) ⌝ }
-    ensures { λ _. ⌜ now (run .exit) ≡ stored round (now (run .entry)) ⌝ }
-{
-    let phase = round.phase;
-    run[0] = number_of(phase);
-    run[1] = round.m;
-    run[2] = round.c;
-    run[3] = round.requests;
-    run[4] = round.reads;
-    run[5] = round.unresolved;
 }
 
 // After a step only what it can have changed is stored. A round that asks: its reads are as they were.
@@ -120,7 +96,9 @@ pub extern "C" fn mvb_round_start(params: u16, run: &mut [u16]) -> u32
                 let short = Refusal::TooShort;
                 return short.code();
             }
-            store(round, run);
+            // The reads, then all but them, as after a step.
+            run[4] = round.reads;
+            store_asked(round, run);
             wide(word)
         }
         Step::End(_, _) => END,
