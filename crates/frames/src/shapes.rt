@@ -5,8 +5,9 @@ ghost use Prim.Native.Nat.{_+_, _*_};
 ghost use Rattle.frames.specs.Words.{fCode};
 ghost use Rattle.rows.specs.Rows.{reserved, dataBytes, blocks, blockBytes, frameBytes};
 
-// The allowed F_codes, a bit each. By its row the compiler would test the range of a word's F_code once more.
-const ALLOWED: u16 = 0xF31F;
+// The allowed F_codes, a bit each. By its row the compiler would test the range of a word's F_code once more; by 16 bits
+// it would widen the word's first byte twice, and the answer waits for that.
+const ALLOWED: u32 = 0xF31F;
 
 pub(crate) struct Shape {
     pub(crate) allowed: bool,

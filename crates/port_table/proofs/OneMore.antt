@@ -17,7 +17,7 @@ use Rattle.port_table.specs.Inside.{nextFrom, climbs}
 
 -- ---- truth values
 
-pub by-cases : (b : Bool) {X : Type 0} → (b ≡ true → X) → (b ≡ false → X) → X
+pub by-cases {ℓ} : (b : Bool) {X : Type ℓ} → (b ≡ true → X) → (b ≡ false → X) → X
 by-cases true f g = f refl
 by-cases false f g = g refl
 

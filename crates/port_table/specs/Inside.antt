@@ -3,19 +3,19 @@
 use mathlib.Core.Path.{_≡_}
 use mathlib.Core.Bool.{Bool, true, false, not, cond, _&&_}
 use mathlib.Core.List.{List, [], _∷_, _++_}
-use Prim.Native.Nat.{ℕ, suc, _+_, _*_, _%_, _≤_, _<_}
+use Prim.Native.Nat.{ℕ, _+_, _-_, _*_, _/_, _≤_, _<_}
 use lib.Dec.{eqb, ltb, leb}
-use lib.ListN.{length, getD, take, drop}
+use lib.ListN.{length, take, drop}
 use Rattle.checks.specs.Bits.{one}
 use Rattle.port_table.specs.declared.Port.{Port}
 use Rattle.port_table.specs.declared.Place.{Place}
 use Rattle.port_table.specs.declared.Seen.{Seen}
 use Rattle.port_table.specs.declared.Tested.{Tested}
 use Rattle.port_table.specs.declared.records.Walk.{Walk}
+use Rattle.port_table.specs.declared.goodness.Part.{Part}
 use Rattle.port_table.specs.declared.goodness.Taken.{Taken}
-use Rattle.port_table.specs.Table.{rising, noPort}
 use Rattle.port_table.specs.Seen.{goodSeen, seenOf}
-use Rattle.port_table.specs.Tested.{sinkBits, sinksPart, testedOf}
+use Rattle.port_table.specs.Tested.{emptyTested}
 
 -- a walk of some table showed this
 abbrev pub Walked : Seen → ℕ → Type 0
@@ -80,39 +80,43 @@ Shows w n r = (a : ℕ) (ps : List Port) → length ps ≡ n → (n ≤ 256 → 
 
 -- ---- the goodness test, from the last record to the first
 
--- no record taken, or one out of order
-abbrev pub emptyTaken : Bool → ℕ → Taken
-emptyTaken ok limit = record { good = ok; limit = limit; part = 0; parts = 0 ∷ 0 ∷ 0 ∷ 0 ∷ [] }
+-- no record taken: the last address must be below 4,096
+abbrev pub noneTaken : Taken
+noneTaken = record { good = true; limit = 4096; first = 0; second = 0; third = 0; fourth = 0 }
+
+-- where the last part of so many records begins
+abbrev pub partStart : ℕ → ℕ
+partStart left = (left - 1) / 64 * 64
+
+-- a part before its last record
+abbrev pub begunOf : Taken → Part
+begunOf t = record { good = t .good; limit = t .limit; sinks = 0 }
+
+-- a record out of order: no address is below 0
+abbrev pub outOfOrder : Part
+outOfOrder = record { good = false; limit = 0; sinks = 0 }
 
 -- the bit of a record, by its direction
 abbrev pub sinkBit : ℕ → ℕ
 sinkBit sink = one (not (eqb sink 0))
 
--- what an address must be below, before records in order
-abbrev pub lowest : List Port → ℕ
-lowest [] = 4096
-lowest (p ∷ ps) = p .address
+-- one record more
+abbrev pub stepOf : Part → ℕ → ℕ → ℕ → Part
+stepOf p address f sink = cond (ltb address (p .limit) && ltb f 5) (record { good = p .good; limit = address; sinks = p .sinks * 2 + sinkBit sink }) outOfOrder
 
--- the sinks of records in order: those up to the next full part, and all full parts
-pub record Marked (t : Taken) (ps : List Port) (i : ℕ) : Type 0 where
-  pub begun : (n : ℕ) → n < 64 → (i + n) % 64 ≡ 0 → t .part ≡ sinkBits (take n (drop i ps))
-  pub full : (k : ℕ) → k < 4 → i ≤ 64 * k → getD (t .parts) k 0 ≡ sinksPart ps k
+-- records, the last one first
+unfoldable pub taking : Part → List Port → Part
+taking p [] = p
+taking p (q ∷ qs) = stepOf (taking p qs) (q .address) (q .«f_code») (q .sink)
 
--- what is kept of the records from record i on
-pub record Takes (t : Taken) (ps : List Port) (i : ℕ) : Type 0 where
-  pub ordered : t .good ≡ rising 0 (drop i ps)
-  pub below : t .limit ≡ cond (rising 0 (drop i ps)) (lowest (drop i ps)) 0
-  pub four : length (t .parts) ≡ 4
-  pub marked : rising 0 (drop i ps) ≡ true → Marked t ps i
+-- the records from one up to another
+abbrev pub between : ℕ → ℕ → List Port → List Port
+between from to ps = take (to - from) (drop from ps)
 
--- the records behind record i are taken, and it is one of at most 256
-abbrev pub OnTake : Taken → ℕ → Type 0
-OnTake t i = (ps : List Port) × Takes t ps (suc i) × (i < length ps) × (i < 256)
+-- one part more
+abbrev pub putOf : Taken → Part → Taken
+putOf t p = record { good = p .good; limit = p .limit; first = p .sinks; second = t .first; third = t .second; fourth = t .third }
 
--- whatever the table, with record i taken too
-abbrev pub TakenOn : Taken → ℕ → ℕ → ℕ → ℕ → Taken → Type 0
-TakenOn t i a f s r = (ps : List Port) → i < length ps → getD ps i noPort ≡ record { address = a; «f_code» = f; sink = s } → Takes t ps (suc i) → Takes r ps i
-
--- what the table shows whose records are taken, unless they are too many
-abbrev pub Tells : Taken → ℕ → Tested → Type 0
-Tells t n r = (ps : List Port) → length ps ≡ n → (n ≤ 256 → Takes t ps 0) → r ≡ testedOf ps
+-- what all of so many records show
+abbrev pub shownOf : Taken → ℕ → Tested
+shownOf t n = cond (ltb 256 n) emptyTested (cond (t .good) (record { good = true; count = n; sinks = t .first ∷ t .second ∷ t .third ∷ t .fourth ∷ [] }) emptyTested)

@@ -2,42 +2,92 @@
 // it, the last record's below 4,096, and the bits of the sinks move up by one for each record.
 use crate::Tested;
 ghost use mathlib.Core.Path.{_≡_};
-ghost use mathlib.Core.Bool.{true, false};
-ghost use Prim.Native.Nat.{_%_};
+ghost use mathlib.Core.Bool.{_&&_};
+ghost use Prim.Native.Nat.{_<_, _≤_, _^_};
+ghost use lib.Dec.{ltb};
 ghost use Rattle.port_table.specs.Tested.{emptyTested};
-ghost use Rattle.port_table.specs.Inside.{emptyTaken, sinkBit, OnTake, TakenOn, Tells};
+ghost use Rattle.port_table.specs.Inside.{noneTaken, begunOf, partStart, outOfOrder, sinkBit, stepOf, putOf, shownOf};
 
-// What is kept of the records taken: whether they are in order, what the next address must be below, their sinks in
-// the part of 64 records that is not full, and in the parts that are.
+// What is kept of a part's records, of which there are at most 64: whether they and all behind them are in order, what
+// the next address must be below, and their sinks.
+pub(crate) struct Part {
+    good: bool,
+    limit: u16,
+    sinks: u64,
+}
+
+// What is kept of whole parts: as of one, with the sinks of the first four from there on.
 pub(crate) struct Taken {
     good: bool,
-    limit: u32,
-    part: u64,
-    parts: [u64; 4],
+    limit: u16,
+    first: u64,
+    second: u64,
+    third: u64,
+    fourth: u64,
 }
 
 // Before the last record.
 pub(crate) fn none() -> Taken
-    ensures { λ r. ⌜ r ≡ emptyTaken true 4096 ⌝ }
+    ensures { λ r. ⌜ r ≡ noneTaken ⌝ }
 {
     Taken {
         good: true,
         limit: 4096,
-        part: 0,
-        parts: [0, 0, 0, 0],
+        first: 0,
+        second: 0,
+        third: 0,
+        fourth: 0,
     }
 }
 
-// Once a record is out of order: no address is below 0.
-fn out_of_order() -> Taken
-    ensures { λ r. ⌜ r ≡ emptyTaken false 0 ⌝ }
+// Whether another part is to be taken, with so many records left.
+pub(crate) fn part_left(taken: Taken, left: usize) -> bool
+    ensures { λ r. ⌜ r ≡ (ltb 0 left && taken .good) ⌝ }
 {
-    Taken {
+    0 < left && taken.good
+}
+
+// Where the last part of so many records begins.
+pub(crate) fn part_start(left: usize) -> usize
+    requires { ⌜ 1 ≤ left ⌝ }
+    ensures { λ r. ⌜ r ≡ partStart left ⌝ }
+{
+    (left - 1) / 64 * 64
+}
+
+// A part before its last record.
+pub(crate) fn begun(taken: Taken) -> Part
+    ensures { λ r. ⌜ r ≡ begunOf taken ⌝ }
+{
+    Part {
+        good: taken.good,
+        limit: taken.limit,
+        sinks: 0,
+    }
+}
+
+// Whether another record of a part that begins at `from` is to be taken, with so many records left.
+pub(crate) fn record_left(part: Part, from: usize, left: usize) -> bool
+    ensures { λ r. ⌜ r ≡ (ltb from left && part .good) ⌝ }
+{
+    from < left && part.good
+}
+
+// Once a record is out of order: no address is below 0.
+fn out_of_order() -> Part
+    ensures { λ r. ⌜ r ≡ outOfOrder ⌝ }
+{
+    Part {
         good: false,
         limit: 0,
-        part: 0,
-        parts: [0, 0, 0, 0],
+        sinks: 0,
     }
+}
+
+fn fits(limit: u16, address: u16, f_code: u8) -> bool
+    ensures { λ r. ⌜ r ≡ (ltb address limit && ltb «f_code» 5) ⌝ }
+{
+    address < limit && f_code < 5
 }
 
 fn sink_bit(sink: u8) -> u64
@@ -46,60 +96,50 @@ fn sink_bit(sink: u8) -> u64
     if sink == 0 { 0 } else { 1 }
 }
 
-// Record i, by its fields, where it is no part's first: nothing is put away. What it has in common with `step` is written
-// out in both: by a function of its own the machine code would copy the parts for every record.
-pub(crate) fn beside(taken: Taken, i: usize, address: u16, f_code: u8, sink: u8) -> Taken
-    requires { ⌜ OnTake taken i × ((i % 64 ≡ 0) → ⊥) ⌝ }
-    ensures { λ r. ⌜ TakenOn taken i address «f_code» sink r ⌝ }
+// One record more, by its fields.
+pub(crate) fn step(part: Part, address: u16, f_code: u8, sink: u8) -> Part
+    requires { ⌜ part .sinks < 2 ^ 63 ⌝ }
+    ensures { λ r. ⌜ r ≡ stepOf part address «f_code» sink ⌝ }
 {
-    let limit = address as u32;
-    if taken.limit <= limit {
+    if !fits(part.limit, address, f_code) {
         return out_of_order();
     }
-    if 5 <= f_code {
-        return out_of_order();
-    }
-    let part = taken.part * 2 + sink_bit(sink);
-    let parts = taken.parts;
-    Taken {
-        good: taken.good,
-        limit,
-        part,
-        parts,
+    Part {
+        good: part.good,
+        limit: address,
+        sinks: part.sinks * 2 + sink_bit(sink),
     }
 }
 
-// Record i, by its fields: they are compared where they lie. The index of a full part stands before the copy of the
-// parts: with the two copies first in their branches, the machine code would copy for every record.
-pub(crate) fn step(taken: Taken, i: usize, address: u16, f_code: u8, sink: u8) -> Taken
-    requires { ⌜ OnTake taken i ⌝ }
-    ensures { λ r. ⌜ TakenOn taken i address «f_code» sink r ⌝ }
+// Two records more, by their fields. With all of them read before a test the machine code branches at each test; else it
+// would compute what is kept both ways and choose.
+pub(crate) fn pair(
+    part: Part,
+    upper_address: u16,
+    upper_f_code: u8,
+    upper_sink: u8,
+    lower_address: u16,
+    lower_f_code: u8,
+    lower_sink: u8,
+) -> Part
+    requires { ⌜ part .sinks < 2 ^ 62 ⌝ }
+    ensures { λ r. ⌜ r ≡ stepOf (stepOf part «upper_address» «upper_f_code» «upper_sink») «lower_address» «lower_f_code» «lower_sink» ⌝ }
 {
-    let limit = address as u32;
-    if taken.limit <= limit {
-        return out_of_order();
-    }
-    if 5 <= f_code {
-        return out_of_order();
-    }
-    let part = taken.part * 2 + sink_bit(sink);
-    if i % 64 == 0 {
-        let full = i / 64;
-        let mut parts = taken.parts;
-        parts[full] = part;
-        return Taken {
-            good: taken.good,
-            limit,
-            part: 0,
-            parts,
-        };
-    }
-    let parts = taken.parts;
+    let upper = step(part, upper_address, upper_f_code, upper_sink);
+    step(upper, lower_address, lower_f_code, lower_sink)
+}
+
+// One part more: the parts behind it move on by one.
+pub(crate) fn put(taken: Taken, part: Part) -> Taken
+    ensures { λ r. ⌜ r ≡ putOf taken part ⌝ }
+{
     Taken {
-        good: taken.good,
-        limit,
-        part,
-        parts,
+        good: part.good,
+        limit: part.limit,
+        first: part.sinks,
+        second: taken.first,
+        third: taken.second,
+        fourth: taken.third,
     }
 }
 
@@ -115,7 +155,7 @@ fn not_good() -> Tested
 
 // What all records show, of which there are so many.
 pub(crate) fn shown(taken: Taken, count: usize) -> Tested
-    ensures { λ r. ⌜ Tells taken count r ⌝ }
+    ensures { λ r. ⌜ r ≡ shownOf taken count ⌝ }
 {
     if 256 < count {
         return not_good();
@@ -124,10 +164,9 @@ pub(crate) fn shown(taken: Taken, count: usize) -> Tested
     if !good {
         return not_good();
     }
-    let sinks = taken.parts;
     Tested {
         good: true,
         count,
-        sinks,
+        sinks: [taken.first, taken.second, taken.third, taken.fourth],
     }
 }

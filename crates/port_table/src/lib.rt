@@ -2,9 +2,14 @@
 mod goodness;
 mod records;
 
+use goodness::Part;
 ghost use mathlib.Core.Path.{_≡_};
+ghost use mathlib.Core.Bool.{true};
+ghost use Prim.Native.Nat.{_+_, _%_, _≤_};
+ghost use lib.ListN.{length};
 ghost use Rattle.port_table.specs.Seen.{seenOf};
 ghost use Rattle.port_table.specs.Tested.{testedOf};
+ghost use Rattle.port_table.specs.Inside.{taking, between};
 
 // A record of the port table. Sink 0 is a source, anything else a sink.
 #[repr(C)]
@@ -61,22 +66,45 @@ pub fn look(table: &[Port], address: u16) -> Seen
     records::shown(walk, table.len())
 }
 
-// The goodness test alone, for a call that needs every record and no address. Two records are taken in a turn, after the
-// last one where their number is odd: then the upper one of the two is no part's first.
+// The records of a part, from the last to the first: two in a turn, after the last one where their number is odd.
+fn test_part(table: &[Port], begun: Part, from: usize, to: usize) -> Part
+    requires { ⌜ (from ≤ to) × (to ≤ from + 64) × (to ≤ length (now table)) × (from % 2 ≡ 0) × (begun .good ≡ true) × (begun .sinks ≡ 0) ⌝ }
+    ensures { λ r. ⌜ r ≡ taking begun (between from to (now (table .entry))) ⌝ }
+{
+    let mut part = begun;
+    let mut i = to;
+    if i % 2 == 1 {
+        i -= 1;
+        part = goodness::step(part, table[i].address, table[i].f_code, table[i].sink);
+    }
+    while goodness::record_left(part, from, i) {
+        i -= 2;
+        let upper = i + 1;
+        part = goodness::pair(
+            part,
+            table[upper].address,
+            table[upper].f_code,
+            table[upper].sink,
+            table[i].address,
+            table[i].f_code,
+            table[i].sink,
+        );
+    }
+    part
+}
+
+// The goodness test alone, for a call that needs every record and no address: part after part, from the last to the
+// first, until a record is out of order.
 pub fn test_table(table: &[Port]) -> Tested
     ensures { λ r. ⌜ r ≡ testedOf (now (table .entry)) ⌝ }
 {
     let mut taken = goodness::none();
-    let mut i = records::walked(table.len());
-    if i % 2 == 1 {
-        i -= 1;
-        taken = goodness::step(taken, i, table[i].address, table[i].f_code, table[i].sink);
-    }
-    while 0 < i {
-        i -= 1;
-        taken = goodness::beside(taken, i, table[i].address, table[i].f_code, table[i].sink);
-        i -= 1;
-        taken = goodness::step(taken, i, table[i].address, table[i].f_code, table[i].sink);
+    let mut to = records::walked(table.len());
+    while goodness::part_left(taken, to) {
+        let from = goodness::part_start(to);
+        let part = test_part(table, goodness::begun(taken), from, to);
+        taken = goodness::put(taken, part);
+        to = from;
     }
     goodness::shown(taken, table.len())
 }

@@ -4,7 +4,7 @@ use refusals::Refusal;
 ghost use mathlib.Core.Path.{_≡_};
 ghost use Prim.Native.Nat.{_+_, _≤_};
 ghost use lib.ListN.{length};
-ghost use Rattle.ports.specs.Inside.{olderBy, partEnd, AgedRun, AgedAll, Ticked, TestedSome};
+ghost use Rattle.ports.specs.Inside.{olderBy, partEnd, AgedRun, Ticked, TestedSome};
 
 fn older(mark: u16, age: u16) -> u16
     ensures { λ r. ⌜ r ≡ olderBy mark age ⌝ }
@@ -56,7 +56,8 @@ fn age_part(part: u64, from: usize, to: usize, ages: &mut [u16])
 {
     let mut left = part;
     let mut i = from;
-    while i + 8 <= to {
+    let whole = to - (to - from) % 8;
+    while i < whole {
         age_eight(left, i, ages);
         left = left / 256;
         i += 8;
@@ -72,21 +73,7 @@ fn part_end(from: usize, count: usize) -> usize
     if count - from < 64 { count } else { from + 64 }
 }
 
-// The ages of all records, part after part.
-fn age_all(tested: Tested, ages: &mut [u16])
-    requires { ⌜ (tested .count ≤ 256) × (tested .count ≤ length (now ages)) ⌝ }
-    ensures { λ _. ⌜ AgedAll tested (now (ages .entry)) (now (ages .exit)) ⌝ }
-{
-    let mut k: usize = 0;
-    while k * 64 < tested.count {
-        let from = k * 64;
-        let to = part_end(from, tested.count);
-        age_part(tested.sinks[k], from, to, ages);
-        k += 1;
-    }
-}
-
-// 13; 4 for ages.
+// 13; 4 for ages; else the ages of all records, part after part.
 pub(crate) fn tick(tested: Tested, ages: &mut [u16]) -> u32
     requires { ⌜ TestedSome tested ⌝ }
     ensures { λ r. ⌜ Ticked tested (now (ages .entry)) r (now (ages .exit)) ⌝ }
@@ -98,6 +85,12 @@ pub(crate) fn tick(tested: Tested, ages: &mut [u16]) -> u32
     if ages.len() < tested.count {
         return Refusal::TooShort.code();
     }
-    age_all(tested, ages);
+    let mut k: usize = 0;
+    while k * 64 < tested.count {
+        let from = k * 64;
+        let to = part_end(from, tested.count);
+        age_part(tested.sinks[k], from, to, ages);
+        k += 1;
+    }
     0
 }

@@ -1,13 +1,13 @@
--- `port_table::goodness::step` meets its contract: an address not below the limit, a reserved F_code, the first record of a part, or another.
+-- `port_table::goodness::step` meets its contract: a record out of order, or one more in order.
 -- Assumes nothing.
-use mathlib.Core.Path.{sym, ap, subst}
+use mathlib.Core.Path.{sym, ap, _∙_}
 use Prim.Native.Nat.{ℕ, _+_, _*_}
 use native.Mathlib.Omega.{arith}
 use borrow.Author.Needs.{needs}
+use borrow.Author.Tests.{not-true, not-false}
 use Rattle.port_table.specs.declared.Port.{Port}
-use Rattle.port_table.specs.declared.goodness.Taken.{Taken}
-use Rattle.port_table.specs.Inside.{Takes}
-use Rattle.port_table.proofs.OneBefore.{takes-high, takes-reserved, takes-begun, takes-full, fits-more}
+use Rattle.port_table.specs.declared.goodness.Part.{Part}
+use Rattle.port_table.proofs.OneBefore.{fitting, unfit, sink-most}
 use Rattle.port_table.proofs.goodness.step.Statement.{statement}
 use Rattle.port_table.proofs.goodness.step.Tie as tie
 
@@ -17,57 +17,22 @@ port start = record { address = start .args .address; «f_code» = start .args .
 
 returns : tie.Need-returns
 returns c =
-    let start : tie.Start = c .before .before .before in
-    λ ps l e k. subst (λ (r : Taken). Takes r ps (start .args .i)) (sym (c .out-of-order .ensures)) (takes-high (start .args .taken) ps _ k (port start) e l (c .before .if1 .taken))
+    let tested : tie.After-fits2 = c .before .before in
+    let start : tie.Start = tested .before in
+    c .out-of-order .ensures ∙ sym (unfit (start .args .part) (port start) (sym (tested .fits2 .ensures) ∙ not-true _ (c .before .if1 .taken)))
+
+add-t9 : tie.Need-add-t9
+add-t9 c =
+    let start : tie.Start = c .before .before .before .before in
+    record { fits = omega (arith, start .pre, c .sink-bit .ensures, sink-most (start .args .sink)) }
 
 returns-2 : tie.Need-returns-2
 returns-2 c =
-    let start : tie.Start = c .before .before .before .before in
-    λ ps l e k. subst (λ (r : Taken). Takes r ps (start .args .i)) (sym (c .out-of-order2 .ensures)) (takes-reserved (start .args .taken) ps _ k (port start) e l (c .before .if2 .taken))
-
-mul-part : tie.Need-mul-part
-mul-part c =
     let low : tie.Else1 = c .before .before in
     let start : tie.Start = low .before .before in
-    record { fits = fits-more (start .args .taken) _ (start .args .address) 0 (start .pre) (low .if1 .left) .0 }
-
-add-part : tie.Need-add-part
-add-part c =
-    let low : tie.Else1 = c .before .before .before in
-    let start : tie.Start = low .before .before in
-    let fits = fits-more (start .args .taken) _ (start .args .address) (start .args .sink) (start .pre) (low .if1 .left) .1 in
-    record { fits = omega (arith, c .sink-bit .ensures) }
-
-returns-3 : tie.Need-returns-3
-returns-3 c =
-    let bit : tie.After-sink-bit = c .before .before in
-    let known : tie.Else2 = bit .before .before in
-    let low : tie.Else1 = known .before in
-    let start : tie.Start = low .before .before in
-    λ ps l e k.
-    takes-full (start .args .taken) ps _ k (port start) e l (low .if1 .left) (known .if2 .left) _ (ap (λ (n : ℕ). start .args .taken .part * 2 + n) (bit .sink-bit .ensures)) (c .before .if3 .taken) (start .pre .3)
-
-returns-4 : tie.Need-returns-4
-returns-4 c =
-    let bit : tie.After-sink-bit = c .before .before in
-    let known : tie.Else2 = bit .before .before in
-    let low : tie.Else1 = known .before in
-    let start : tie.Start = low .before .before in
-    λ ps l e k.
-    takes-begun (start .args .taken) ps _ k (port start) e l (low .if1 .left) (known .if2 .left) _ (ap (λ (n : ℕ). start .args .taken .part * 2 + n) (bit .sink-bit .ensures)) (c .before .if3 .left)
+    let part : Part = start .args .part in
+    ap (λ (n : ℕ). record { good = part .good; limit = start .args .address; sinks = part .sinks * 2 + n }) (c .sink-bit .ensures)
+    ∙ sym (fitting part (port start) (sym (low .before .fits2 .ensures) ∙ not-false _ (low .if1 .left)))
 
 pub step-spec : {M : Type 1} → statement M
-step-spec =
-    tie.close
-    (tie.spec
-    (λ c κs. search needs)
-    returns
-    (λ c κs. search needs)
-    returns-2
-    mul-part
-    (λ c κs. search needs)
-    add-part
-    (λ c. search needs)
-    (λ c. search needs)
-    returns-3
-    returns-4)
+step-spec = tie.close (tie.spec (λ c κs. search needs) (λ c κs. search needs) returns (λ c. search needs) (λ c κs. search needs) add-t9 returns-2)
