@@ -1,4 +1,4 @@
--- The check bits of a number are the sum of those of its parts, four bits each; a word's first byte first joins the second.
+-- The check bits of a number are the sum of those of its parts, four or five bits each; a word's first byte first joins the second.
 -- Assumes nothing.
 use mathlib.Core.Path.{_≡_, refl, sym, ap, ap₂, _∙_}
 use Prim.Native.Nat.{ℕ, _+_, _*_, _/_, _%_, _^_, _<_}
@@ -19,9 +19,9 @@ use Rattle.checks.proofs.Runs.{number-add, xor-assoc}
 abbrev pub left : ℕ → ℕ
 left n = number (plain (bits 64 n))
 
--- a value looked up at n, where four is n
-pub entry : (part : ℕ → ℕ) (n four : ℕ) {v : ℕ} → four ≡ n → v ≡ left (part n) → v ≡ left (part four)
-entry part n four e h = h ∙ ap (λ (x : ℕ). left (part x)) (sym e)
+-- a value looked up at n, where the bits are n
+pub entry : (part : ℕ → ℕ) (n few : ℕ) {v : ℕ} → few ≡ n → v ≡ left (part n) → v ≡ left (part few)
+entry part n few e h = h ∙ ap (λ (x : ℕ). left (part x)) (sym e)
 
 left-xor : (m n : ℕ) → bitXor (left m) (left n) ≡ left (bitXor m n)
 left-xor m n =
@@ -37,34 +37,22 @@ of-byte v h ea eb =
     more 4 (v / 2 ^ 4 % 16) (v / 2 ^ 4 % 16 * 2 ^ 4) (v % 16) (omega arith) (omega arith) ea eb
     ∙ ap left (let e : v / 2 ^ 4 % 16 * 2 ^ 4 + v % 16 ≡ v = omega arith in e)
 
--- the twelve bits below a multiple of 2^12
-twelve : (v m k : ℕ) {p b c d : ℕ} → m ≡ k * 2 ^ 12 → p ≡ left m → b ≡ left (v / 2 ^ 8 % 16 * 2 ^ 8) → c ≡ left (v / 2 ^ 4 % 16 * 2 ^ 4) → d ≡ left (v % 16)
-    → bitXor (bitXor (bitXor p b) c) d ≡ left (m + v % 4096)
-twelve v m k e ep eb ec ed =
-    more 4 (k * 256 + v / 2 ^ 8 % 16 * 16 + v / 2 ^ 4 % 16) (m + v / 2 ^ 8 % 16 * 2 ^ 8 + v / 2 ^ 4 % 16 * 2 ^ 4) (v % 16) (omega arith) (omega arith)
-    (more 8 (k * 16 + v / 2 ^ 8 % 16) (m + v / 2 ^ 8 % 16 * 2 ^ 8) (v / 2 ^ 4 % 16 * 2 ^ 4) (omega arith) (omega arith)
-    (more 12 k m (v / 2 ^ 8 % 16 * 2 ^ 8) e (omega arith) ep eb) ec) ed
-    ∙ ap left (let s : m + v / 2 ^ 8 % 16 * 2 ^ 8 + v / 2 ^ 4 % 16 * 2 ^ 4 + v % 16 ≡ m + v % 4096 = omega arith in s)
-
-pub of-three : (v : ℕ) {a b c d e f : ℕ} → v < 16777216
-    → a ≡ left (v / 2 ^ 20 % 16 * 2 ^ 20) → b ≡ left (v / 2 ^ 16 % 16 * 2 ^ 16) → c ≡ left (v / 2 ^ 12 % 16 * 2 ^ 12)
-    → d ≡ left (v / 2 ^ 8 % 16 * 2 ^ 8) → e ≡ left (v / 2 ^ 4 % 16 * 2 ^ 4) → f ≡ left (v % 16)
-    → bitXor (bitXor (bitXor (bitXor (bitXor a b) c) d) e) f ≡ left v
-of-three v h ea eb ec ed ee ef =
-    twelve v (v / 2 ^ 20 % 16 * 2 ^ 20 + v / 2 ^ 16 % 16 * 2 ^ 16 + v / 2 ^ 12 % 16 * 2 ^ 12) (v / 2 ^ 20 % 16 * 256 + v / 2 ^ 16 % 16 * 16 + v / 2 ^ 12 % 16) (omega arith)
-    (more 16 (v / 2 ^ 20 % 16 * 16 + v / 2 ^ 16 % 16) (v / 2 ^ 20 % 16 * 2 ^ 20 + v / 2 ^ 16 % 16 * 2 ^ 16) (v / 2 ^ 12 % 16 * 2 ^ 12) (omega arith) (omega arith)
-    (more 20 (v / 2 ^ 20 % 16) (v / 2 ^ 20 % 16 * 2 ^ 20) (v / 2 ^ 16 % 16 * 2 ^ 16) (omega arith) (omega arith) ea eb) ec) ed ee ef
-    ∙ ap left (let high : v / 2 ^ 16 ≡ v / 2 ^ 12 / 16 = omega arith in
-    let top : v / 2 ^ 20 ≡ v / 2 ^ 16 / 16 = omega arith in
-    let most : v / 2 ^ 16 < 256 = omega arith in
-    let upper : v / 2 ^ 20 % 16 * 16 + v / 2 ^ 16 % 16 ≡ v / 2 ^ 16 = omega arith in
-    let s : v / 2 ^ 20 % 16 * 2 ^ 20 + v / 2 ^ 16 % 16 * 2 ^ 16 + v / 2 ^ 12 % 16 * 2 ^ 12 + v % 4096 ≡ v = omega arith in
+-- 23 bits: three times five above a byte
+pub of-bits : (v : ℕ) {a b c d : ℕ} → v < 8388608 → a ≡ left (v / 2 ^ 18 * 2 ^ 18) → b ≡ left (v / 2 ^ 13 % 32 * 2 ^ 13) → c ≡ left (v / 2 ^ 8 % 32 * 2 ^ 8) → d ≡ left (v % 256)
+    → bitXor (bitXor (bitXor a b) c) d ≡ left v
+of-bits v h ea eb ec ed =
+    more 8 (v / 2 ^ 18 * 1024 + v / 2 ^ 13 % 32 * 32 + v / 2 ^ 8 % 32) (v / 2 ^ 18 * 2 ^ 18 + v / 2 ^ 13 % 32 * 2 ^ 13 + v / 2 ^ 8 % 32 * 2 ^ 8) (v % 256) (omega arith) (omega arith)
+    (more 13 (v / 2 ^ 18 * 32 + v / 2 ^ 13 % 32) (v / 2 ^ 18 * 2 ^ 18 + v / 2 ^ 13 % 32 * 2 ^ 13) (v / 2 ^ 8 % 32 * 2 ^ 8) (omega arith) (omega arith)
+    (more 18 (v / 2 ^ 18) (v / 2 ^ 18 * 2 ^ 18) (v / 2 ^ 13 % 32 * 2 ^ 13) refl (omega arith) ea eb) ec) ed
+    ∙ ap left (let high : v / 2 ^ 13 ≡ v / 2 ^ 8 / 32 = omega arith in
+    let top : v / 2 ^ 18 ≡ v / 2 ^ 13 / 32 = omega arith in
+    let s : v / 2 ^ 18 * 2 ^ 18 + v / 2 ^ 13 % 32 * 2 ^ 13 + v / 2 ^ 8 % 32 * 2 ^ 8 + v % 256 ≡ v = omega arith in
     s)
 
-pub of-two : (x y : ℕ) {a b c : ℕ} → x < 256 → y < 256 → a ≡ left (x / 2 ^ 4 * 2 ^ 12) → b ≡ left (x % 16 * 2 ^ 8) → c ≡ left y → bitXor (bitXor a b) c ≡ left (x * 256 + y)
+pub of-two : (x y : ℕ) {a b c : ℕ} → x < 256 → y < 256 → a ≡ left (x / 2 ^ 5 * 2 ^ 13) → b ≡ left (x % 32 * 2 ^ 8) → c ≡ left y → bitXor (bitXor a b) c ≡ left (x * 256 + y)
 of-two x y hx hy ea eb ec =
-    more 8 x (x / 2 ^ 4 * 2 ^ 12 + x % 16 * 2 ^ 8) y (omega arith) hy (more 12 (x / 2 ^ 4) (x / 2 ^ 4 * 2 ^ 12) (x % 16 * 2 ^ 8) refl (omega arith) ea eb) ec
-    ∙ ap left (let s : x / 2 ^ 4 * 2 ^ 12 + x % 16 * 2 ^ 8 + y ≡ x * 256 + y = omega arith in s)
+    more 8 x (x / 2 ^ 5 * 2 ^ 13 + x % 32 * 2 ^ 8) y (omega arith) hy (more 13 (x / 2 ^ 5) (x / 2 ^ 5 * 2 ^ 13) (x % 32 * 2 ^ 8) refl (omega arith) ea eb) ec
+    ∙ ap left (let s : x / 2 ^ 5 * 2 ^ 13 + x % 32 * 2 ^ 8 + y ≡ x * 256 + y = omega arith in s)
 
 -- ---- a word
 left-lt : (n : ℕ) → left n < 256

@@ -31,87 +31,94 @@ fn folded(high: u64, low: u64) -> u64
     ((v << 41) >> 41) ^ top ^ (top << 1) ^ (top << 2)
 }
 
-// Check bits, before they are inverted, looked up in read-only memory: what four bits leave with 20 bits behind them.
-fn from_20(four: u64) -> u8
-    requires { ⌜ four < 16 ⌝ }
-    ensures { λ r. ⌜ r ≡ number (plain (bits 64 (four * 2 ^ 20))) ⌝ }
+// Check bits, before they are inverted, looked up in read-only memory: what five bits leave with 18 bits behind them.
+fn from_18(five: u64) -> u8
+    requires { ⌜ five < 32 ⌝ }
+    ensures { λ r. ⌜ r ≡ number (plain (bits 64 (five * 2 ^ 18))) ⌝ }
 {
-    match four {
+    match five {
         0 => 0x00,
-        1 => 0xe0,
-        2 => 0x0b,
-        3 => 0xeb,
-        4 => 0x15,
-        5 => 0xf5,
-        6 => 0x1e,
-        7 => 0xfe,
-        8 => 0x29,
-        9 => 0xc9,
-        10 => 0x22,
-        11 => 0xc2,
-        12 => 0x3c,
-        13 => 0xdc,
-        14 => 0x37,
-        _ => 0xd7,
+        1 => 0x38,
+        2 => 0x70,
+        3 => 0x48,
+        4 => 0xe0,
+        5 => 0xd8,
+        6 => 0x90,
+        7 => 0xa8,
+        8 => 0x0b,
+        9 => 0x33,
+        10 => 0x7b,
+        11 => 0x43,
+        12 => 0xeb,
+        13 => 0xd3,
+        14 => 0x9b,
+        15 => 0xa3,
+        16 => 0x15,
+        17 => 0x2d,
+        18 => 0x65,
+        19 => 0x5d,
+        20 => 0xf5,
+        21 => 0xcd,
+        22 => 0x85,
+        23 => 0xbd,
+        24 => 0x1e,
+        25 => 0x26,
+        26 => 0x6e,
+        27 => 0x56,
+        28 => 0xfe,
+        29 => 0xc6,
+        30 => 0x8e,
+        _ => 0xb6,
     }
 }
 
-// What four bits leave with 16 bits behind them.
-fn from_16(four: u64) -> u8
-    requires { ⌜ four < 16 ⌝ }
-    ensures { λ r. ⌜ r ≡ number (plain (bits 64 (four * 2 ^ 16))) ⌝ }
+// What five bits leave with 13 bits behind them.
+fn from_13(five: u64) -> u8
+    requires { ⌜ five < 32 ⌝ }
+    ensures { λ r. ⌜ r ≡ number (plain (bits 64 (five * 2 ^ 13))) ⌝ }
 {
-    match four {
+    match five {
         0 => 0x00,
-        1 => 0x0e,
-        2 => 0x1c,
-        3 => 0x12,
-        4 => 0x38,
-        5 => 0x36,
-        6 => 0x24,
-        7 => 0x2a,
-        8 => 0x70,
-        9 => 0x7e,
-        10 => 0x6c,
-        11 => 0x62,
-        12 => 0x48,
-        13 => 0x46,
-        14 => 0x54,
-        _ => 0x5a,
+        1 => 0x4a,
+        2 => 0x94,
+        3 => 0xde,
+        4 => 0xe3,
+        5 => 0xa9,
+        6 => 0x77,
+        7 => 0x3d,
+        8 => 0x0e,
+        9 => 0x44,
+        10 => 0x9a,
+        11 => 0xd0,
+        12 => 0xed,
+        13 => 0xa7,
+        14 => 0x79,
+        15 => 0x33,
+        16 => 0x1c,
+        17 => 0x56,
+        18 => 0x88,
+        19 => 0xc2,
+        20 => 0xff,
+        21 => 0xb5,
+        22 => 0x6b,
+        23 => 0x21,
+        24 => 0x12,
+        25 => 0x58,
+        26 => 0x86,
+        27 => 0xcc,
+        28 => 0xf1,
+        29 => 0xbb,
+        30 => 0x65,
+        _ => 0x2f,
     }
 }
 
-// What four bits leave with 12 bits behind them.
-fn from_12(four: u64) -> u8
-    requires { ⌜ four < 16 ⌝ }
-    ensures { λ r. ⌜ r ≡ number (plain (bits 64 (four * 2 ^ 12))) ⌝ }
+// What five bits leave with 8 bits behind them.
+fn from_8(five: u64) -> u8
+    requires { ⌜ five < 32 ⌝ }
+    ensures { λ r. ⌜ r ≡ number (plain (bits 64 (five * 2 ^ 8))) ⌝ }
 {
-    match four {
-        0 => 0x00,
-        1 => 0xc1,
-        2 => 0x4a,
-        3 => 0x8b,
-        4 => 0x94,
-        5 => 0x55,
-        6 => 0xde,
-        7 => 0x1f,
-        8 => 0xe3,
-        9 => 0x22,
-        10 => 0xa9,
-        11 => 0x68,
-        12 => 0x77,
-        13 => 0xb6,
-        14 => 0x3d,
-        _ => 0xfc,
-    }
-}
-
-// What four bits leave with 8 bits behind them.
-fn from_8(four: u64) -> u8
-    requires { ⌜ four < 16 ⌝ }
-    ensures { λ r. ⌜ r ≡ number (plain (bits 64 (four * 2 ^ 8))) ⌝ }
-{
-    match four {
+    match five {
         0 => 0x00,
         1 => 0x0d,
         2 => 0x19,
@@ -127,7 +134,23 @@ fn from_8(four: u64) -> u8
         12 => 0x50,
         13 => 0x5d,
         14 => 0x49,
-        _ => 0x44,
+        15 => 0x44,
+        16 => 0xc1,
+        17 => 0xcc,
+        18 => 0xd8,
+        19 => 0xd5,
+        20 => 0xf0,
+        21 => 0xfd,
+        22 => 0xe9,
+        23 => 0xe4,
+        24 => 0xa0,
+        25 => 0xad,
+        26 => 0xb9,
+        27 => 0xb4,
+        28 => 0x91,
+        29 => 0x9c,
+        30 => 0x88,
+        _ => 0x85,
     }
 }
 
@@ -181,21 +204,21 @@ fn from_0(four: u64) -> u8
     }
 }
 
-// What at most 24 bits leave: the sum of what each four of them leave.
-fn plain_of(v: u64) -> u8
-    requires { ⌜ v < 16777216 ⌝ }
-    ensures { λ r. ⌜ r ≡ number (plain (bits 64 v)) ⌝ }
-{
-    let high = from_20((v >> 20) % 16) ^ from_16((v >> 16) % 16) ^ from_12((v >> 12) % 16);
-    high ^ from_8((v >> 8) % 16) ^ from_4((v >> 4) % 16) ^ from_0(v % 16)
-}
-
 // What a byte leaves.
 fn plain_of_byte(v: u64) -> u8
     requires { ⌜ v < 256 ⌝ }
     ensures { λ r. ⌜ r ≡ number (plain (bits 64 v)) ⌝ }
 {
     from_4((v >> 4) % 16) ^ from_0(v % 16)
+}
+
+// What at most 23 bits leave: the sum of what their parts leave.
+fn plain_of(v: u64) -> u8
+    requires { ⌜ v < 8388608 ⌝ }
+    ensures { λ r. ⌜ r ≡ number (plain (bits 64 v)) ⌝ }
+{
+    let high = from_18(v >> 18) ^ from_13((v >> 13) % 32) ^ from_8((v >> 8) % 32);
+    high ^ plain_of_byte(v % 256)
 }
 
 // What a word leaves. x^15 and x^2 + x leave one remainder, so that the word's first byte joins the second with its
@@ -216,7 +239,7 @@ fn plain_of_two(first: u64, second: u64) -> u8
     requires { ⌜ (first < 256) × (second < 256) ⌝ }
     ensures { λ r. ⌜ r ≡ number (plain (bits 64 (first * 256 + second))) ⌝ }
 {
-    from_12(first >> 4) ^ from_8(first % 16) ^ plain_of_byte(second)
+    from_13(first >> 5) ^ from_8(first % 32) ^ plain_of_byte(second)
 }
 
 // The check bits of a block of any length, two bytes at a time: the remainder so far joins the next byte, the parity

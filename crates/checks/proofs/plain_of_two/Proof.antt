@@ -8,7 +8,7 @@ use Rattle.checks.proofs.plain_of_two.Tie as tie
 returns : tie.Need-returns
 returns c =
     let start = c .before .before .before in
-    of-two (start .args .first) (start .args .second) (start .pre .0) (start .pre .1) (c .before .before .from-12 .ensures) (c .before .from-8 .ensures) (c .plain-of-byte .ensures)
+    of-two (start .args .first) (start .args .second) (start .pre .0) (start .pre .1) (c .before .before .from-13 .ensures) (c .before .from-8 .ensures) (c .plain-of-byte .ensures)
 
 pub plain-of-two-spec : {M : Type 1} → statement M
 plain-of-two-spec = tie.close (tie.spec (λ c κs. search needs) (λ c κs. search needs) (λ c κs. search needs) returns)
