@@ -56,6 +56,19 @@ pub record Marked (bytes any two : List ℕ) (from : ℕ) : Type 0 where
 abbrev pub hasEvent : List ℕ → ℕ → Bool
 hasEvent any = inSet (drop 512 any)
 
+-- of the groups of one M, so many, the one with this mark has device a alone
+pub record Alone (S : ℕ → Bool) (groups mark a : ℕ) : Type 0 where
+  pub m : ℕ
+  pub c : ℕ
+  pub wide : groups ≡ 2 ^ (12 - m)
+  pub first : mark ≡ groups + c
+  pub group : isGroup m c ≡ true
+  pub only : devices S m c ≡ a ∷ []
+
+-- and this is the device
+abbrev pub Found : (ℕ → Bool) → ℕ → ℕ → ℕ → Type 0
+Found S groups mark device = (a : ℕ) → Alone S groups mark a → (device ≡ a) × (device < 4096)
+
 -- how many bytes the marks of one M take, for M 2 to 9
 abbrev pub Width : ℕ → Type 0
 Width width = (e : ℕ) × (e ≤ 7) × (width ≡ 2 ^ e)

@@ -2,15 +2,15 @@
 use frames::LineAnswer;
 use refusals::Refusal;
 ghost use mathlib.Core.Path.{_≡_};
-ghost use mathlib.Core.Bool.{true, cond};
+ghost use mathlib.Core.Bool.{true};
 ghost use mathlib.Core.List.{[], _∷_};
-ghost use Prim.Native.Nat.{_+_, _-_, _*_, _^_, _≤_, _<_};
+ghost use Prim.Native.Nat.{ℕ, _+_, _-_, _*_, _^_, _≤_, _<_};
 ghost use lib.Dec.{leb};
 ghost use lib.ListN.{length, drop};
 ghost use Rattle.groups.specs.Groups.{isGroup};
 ghost use Rattle.groups.specs.Sets.{devices as devicesOf, howMany};
 ghost use Rattle.search.specs.Searches.{inSet, searched, written};
-ghost use Rattle.search.specs.Inside.{bitAt, answerTo, bitsOf, One, Marked, hasEvent, Width, Packed, Walks, Settled};
+ghost use Rattle.search.specs.Inside.{bitAt, answerTo, bitsOf, One, Marked, Alone, Found, hasEvent, Width, Packed, Walks, Settled};
 ghost use Rattle.search.specs.Told.{told};
 
 // Requests and reads; or a refusal.
@@ -260,18 +260,41 @@ fn has_two(two: &[u8; 512], mark: usize) -> bool
     has(two, mark)
 }
 
-// The device of a group that has one alone: from half to half.
+// The device of a group that has one alone: from half to half, from mark to mark.
 fn lone(any: &[u8; 1024], m: usize, c: usize) -> u16
     requires { ⌜ (length (now any) ≡ 1024) × One (drop 512 (now any)) (now any) 1 × (isGroup m c ≡ true) × (length (devicesOf (hasEvent (now any)) m c) ≡ 1) ⌝ }
     ensures { λ r. ⌜ (devicesOf (hasEvent (now (any .entry))) m c ≡ r ∷ []) × (r < 4096) ⌝ }
 {
     let mut step = first_mark(m);
-    let mut at = c;
-    while step < 4096 {
-        at = at + step * lacks(any, 2 * step + at);
+    let mut mark = step + c;
+    while step < 8 {
+        mark = mark + step + times_bit(step, bit(any, mark + 2 * step));
         step = 2 * step;
     }
-    at as u16
+    lone_by_bytes(any, step / 8, mark)
+}
+
+// The same from a mark of M = 9 or less on, where the marks of one M take so many bytes: the mark of a half is the same bit of another byte.
+fn lone_by_bytes(any: &[u8; 1024], bytes: usize, mark: usize) -> u16
+    requires { ⌜ (length (now any) ≡ 1024) × One (drop 512 (now any)) (now any) 1 × ((a : ℕ) × Alone (hasEvent (now any)) (8 * bytes) mark a) ⌝ }
+    ensures { λ r. ⌜ Found (hasEvent (now (any .entry))) (8 * bytes) mark r ⌝ }
+{
+    let place = mark % 8;
+    let mut width = bytes;
+    let mut i = mark / 8;
+    while width < 512 {
+        i = i + width + times_bit(width, bit(any, 8 * (i + 2 * width) + place));
+        width = 2 * width;
+    }
+    (8 * i + place - 4096) as u16
+}
+
+// The number where the bit is 1, 0 where it is 0. No branch: which half has the device cannot be foretold. No multiplication: the next half waits for it.
+fn times_bit(number: usize, bit: u8) -> usize
+    requires { ⌜ bit < 2 ⌝ }
+    ensures { λ r. ⌜ r ≡ number * bit ⌝ }
+{
+    number & (18446744073709551615 * (bit as usize))
 }
 
 // 2^(12-M), as `groups::bound` has it, without its test: the marks of M begin there, and the upper half of {M, C} is
@@ -281,14 +304,6 @@ fn first_mark(m: usize) -> usize
     ensures { λ r. ⌜ r ≡ 2 ^ (12 - m) ⌝ }
 {
     4096 >> m
-}
-
-// 1 where this bit is not set, 0 where it is. A number and no branch: which half has the device cannot be foretold.
-fn lacks(bytes: &[u8], n: usize) -> usize
-    requires { ⌜ n < 8 * length (now bytes) ⌝ }
-    ensures { λ r. ⌜ r ≡ cond (inSet (now (bytes .entry)) n) 0 1 ⌝ }
-{
-    (1 - bit(bytes, n)) as usize
 }
 
 // Whether this bit is set.
