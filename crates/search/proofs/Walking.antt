@@ -1,10 +1,10 @@
 -- Each way through the search of a group, and through the search of the set.
 -- Assumes nothing.
 use mathlib.Core.Path.{_≡_, refl, sym, ap, _∙_, subst}
-use mathlib.Core.Bool.{Bool, true, false, true≢false, false≢true}
+use mathlib.Core.Bool.{Bool, true, false, cond, true≢false, false≢true}
 use mathlib.Core.List.{List, [], _∷_, _++_, List·Memᴰ}
 use mathlib.Core.List.List·Memᴰ.{List·Memᴰ·head}
-use Prim.Native.Nat.{ℕ, zero, suc, _+_, _-_, _%_, _^_, _≤_, _<_}
+use Prim.Native.Nat.{ℕ, zero, suc, _+_, _-_, _/_, _%_, _^_, _≤_, _<_}
 use native.Mathlib.Omega.{arith}
 use native.Mathlib.Nat.{add-zero}
 use lib.Dec.{leb}
@@ -19,7 +19,7 @@ use Rattle.groups.specs.Groups.{isGroup}
 use Rattle.groups.specs.Sets.{devices, howMany}
 use Rattle.groups.specs.Search.{searchOf}
 use Rattle.groups.proofs.Follow.{Group, is-group, group-is, in-lower, in-upper}
-use Rattle.groups.proofs.Powers.{at-most}
+use Rattle.groups.proofs.Powers.{at-most, doubled}
 use Rattle.groups.proofs.Members.{member}
 use Rattle.groups.proofs.Counting.{set-count}
 use Rattle.groups.proofs.Costs.{finds, devices-few, requests-few, once, collided, halved}
@@ -41,6 +41,13 @@ module _ (bytes any two : List ℕ) (m c : ℕ) (q : Marked bytes any two 1) (g 
   -- its mark lies in the bytes
   pub mark-in : b + c < 8192
   mark-in = let k = group-is m c g .1 in omega (arith, at-most (12 - m) (omega arith))
+
+  -- from M = 1 on in those of both
+  pub mark-low : 1 ≤ m → b + c < 4096
+  mark-low h =
+      let k = group-is m c g .1 in
+      let p : 2 ^ (12 - m) ≤ 2 ^ 11 = pow-mono {j = 11} (omega arith) in
+      omega arith
 
   first : 1 ≤ markOf m c
   first = omega (arith, pow-pos (12 - m))
@@ -204,6 +211,38 @@ module _ (S : ℕ → Bool) (m c : ℕ) (g : isGroup m c ≡ true) (k : 2 ≤ le
 
   pub room-low : (at n : ℕ) → at + length (devices S m c) ≤ n → at + length (devices S (m - 1) c) ≤ n
   room-low at n r = omega (arith, lengths {h = 2 ^ (12 - m)} refl)
+
+-- half of the marks of M-1 are as many as those of M
+pub half-mark : (m marks : ℕ) → 1 ≤ m → m ≤ 12 → marks ≡ 2 ^ (12 - (m - 1)) → marks / 2 ≡ 2 ^ (12 - m)
+half-mark m marks h t e =
+    let d : 12 - (m - 1) ≡ suc (12 - m) = omega arith in
+    let p : marks ≡ 2 ^ (12 - m) + 2 ^ (12 - m) = e ∙ ap (λ (i : ℕ). 2 ^ i) d ∙ doubled (12 - m) in
+    omega arith
+
+-- ---- a group of two devices, and both have an event
+module _ (S : ℕ → Bool) (m c : ℕ) (one : m ≡ 1) (g : isGroup m c ≡ true) (k : 2 ≤ length (devices S m c)) where
+  both-there : (i : ℕ) → i ≡ 1 → 2 ≤ length (devices S i c) → (devices S i c ≡ c ∷ (c + 2048) ∷ []) × (searchOf S i c .requests ≡ 3)
+  unfolding devices searchOf
+  both-there zero e h = absurd (omega arith)
+  both-there (suc zero) e h = (go (S c) (S (c + 2048)) h, collided S 0 c h)
+    where
+      go : (a b : Bool) → 2 ≤ length (cond a (c ∷ []) [] ++ cond b ((c + 2048) ∷ []) []) → cond a (c ∷ []) [] ++ cond b ((c + 2048) ∷ []) [] ≡ c ∷ (c + 2048) ∷ []
+      go true true n = refl
+      go true false n = absurd (omega arith)
+      go false true n = absurd (omega arith)
+      go false false n = absurd (omega arith)
+  both-there (suc (suc i)) e h = absurd (omega arith)
+
+  pub pair-small : c < 2048
+  pair-small = let t = group-is m c g .1 in subst (λ (i : ℕ). c < 2 ^ (12 - i)) one t
+
+  pub pair-room : (at n : ℕ) → at + length (devices S m c) ≤ n → at + 2 ≤ n
+  pair-room at n r = omega arith
+
+  pub walk-pair : {at f : ℕ} {out out₁ : List ℕ} → f ≡ at + 2 → out₁ ≡ placed out at (c ∷ (c + 2048) ∷ []) → Walks S m c at out 3 f out₁
+  walk-pair {at} {f} {out} e w =
+      let (d, q) = both-there m one k in
+      record { asked = sym q; read = e ∙ ap (λ (l : List ℕ). at + length l) (sym d); wrote = w ∙ ap (placed out at) (sym d) }
 
 -- ---- the search of the set
 pub reads-fit : {S : ℕ → Bool} {out : List ℕ} {q f : ℕ} {out₁ : List ℕ} → Walks S 12 0 0 out q f out₁ → f ≤ 4096

@@ -10,7 +10,7 @@ ghost use lib.ListN.{length, drop};
 ghost use Rattle.groups.specs.Groups.{isGroup};
 ghost use Rattle.groups.specs.Sets.{devices as devicesOf, howMany};
 ghost use Rattle.search.specs.Searches.{inSet, searched, written};
-ghost use Rattle.search.specs.Inside.{bitAt, answerTo, bitsOf, One, Marked, Alone, Found, hasEvent, Width, Packed, Walks, Settled};
+ghost use Rattle.search.specs.Inside.{bitAt, answerTo, bitsOf, One, Marked, Alone, Found, hasEvent, Width, Packed, placed, Walks, Settled};
 ghost use Rattle.search.specs.Told.{told};
 
 // Requests and reads; or a refusal.
@@ -195,18 +195,33 @@ fn walk(
     requires { ⌜ Marked (drop 512 (now any)) (now any) (now two) 1 × (isGroup m c ≡ true) × (now at + length (devicesOf (hasEvent (now any)) m c) ≤ length (now out)) × (2 ≤ length (devicesOf (hasEvent (now any)) m c)) ⌝ }
     ensures { λ r. ⌜ Walks (hasEvent (now (any .entry))) m c (now (at .entry)) (now (out .entry)) r (now (at .exit)) (now (out .exit)) ⌝ }
 {
+    if m == 1 {
+        pair(out, at, c);
+        return 3;
+    }
     let low = if settled(any, two, out, at, m - 1, c) {
         1
     } else {
         walk(any, two, out, at, m - 1, c)
     };
-    let upper = c + first_mark(m);
+    let upper = c + first_mark(m - 1) / 2;
     let high = if settled(any, two, out, at, m - 1, upper) {
         1
     } else {
         walk(any, two, out, at, m - 1, upper)
     };
     1 + (low + high)
+}
+
+// Two devices of the group {1, c}: each of them replies when it is asked alone. Both are written from place `at` on.
+fn pair(out: &mut [u16], at: &mut usize, c: usize)
+    requires { ⌜ (c < 2048) × (now at + 2 ≤ length (now out)) ⌝ }
+    ensures { λ _. ⌜ (now (at .exit) ≡ now (at .entry) + 2) × (now (out .exit) ≡ placed (now (out .entry)) (now (at .entry)) (c ∷ (c + 2048) ∷ [])) ⌝ }
+{
+    let i = *at;
+    out[i] = c as u16;
+    out[i + 1] = (c + 2048) as u16;
+    *at = i + 2;
 }
 
 // Asks the group {m, c}: whether that settles it. A device that replies is written at place `at`; a collision leaves all as it was.
@@ -218,7 +233,7 @@ fn settled(
     m: usize,
     c: usize,
 ) -> bool
-    requires { ⌜ Marked (drop 512 (now any)) (now any) (now two) 1 × (isGroup m c ≡ true) × (now at + length (devicesOf (hasEvent (now any)) m c) ≤ length (now out)) ⌝ }
+    requires { ⌜ Marked (drop 512 (now any)) (now any) (now two) 1 × (isGroup m c ≡ true) × (now at + length (devicesOf (hasEvent (now any)) m c) ≤ length (now out)) × (1 ≤ m) ⌝ }
     ensures { λ r. ⌜ Settled (hasEvent (now (any .entry))) m c (now (at .entry)) (now (out .entry)) r (now (at .exit)) (now (out .exit)) ⌝ }
 {
     let answer = ask(any, two, m, c);
@@ -236,28 +251,17 @@ fn settled(
 
 // What the devices of the group {m, c} answer.
 fn ask(any: &[u8; 1024], two: &[u8; 512], m: usize, c: usize) -> LineAnswer
-    requires { ⌜ Marked (drop 512 (now any)) (now any) (now two) 1 × (isGroup m c ≡ true) ⌝ }
+    requires { ⌜ Marked (drop 512 (now any)) (now any) (now two) 1 × (isGroup m c ≡ true) × (1 ≤ m) ⌝ }
     ensures { λ r. ⌜ r ≡ answerTo (devicesOf (hasEvent (now (any .entry))) m c) ⌝ }
 {
     let mark = first_mark(m) + c;
-    if has_two(two, mark) {
+    if has(two, mark) {
         return LineAnswer::Collision;
     }
     if !has(any, mark) {
         return LineAnswer::Silence;
     }
     LineAnswer::Reply(49152 + lone(any, m, c))
-}
-
-// Whether a group has two devices with an event. One device, M = 0, has no mark.
-fn has_two(two: &[u8; 512], mark: usize) -> bool
-    requires { ⌜ length (now two) ≡ 512 ⌝ }
-    ensures { λ r. ⌜ r ≡ inSet (now (two .entry)) mark ⌝ }
-{
-    if 4096 <= mark {
-        return false;
-    }
-    has(two, mark)
 }
 
 // The device of a group that has one alone: from half to half, from mark to mark.

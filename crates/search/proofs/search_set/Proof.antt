@@ -90,7 +90,7 @@ search-set-spec =
     (λ c κs. search needs)
     returns-3
     (λ c κs. search needs)
-    (λ c κs. let k = c .before .before .before .before in (marked k, refl, there k))
+    (λ c κs. let k = c .before .before .before .before in (marked k, refl, there k, omega arith))
     walk-requires
     (λ c. omega (arith, reads-fit (found (c .before))))
     (λ c. walk-length (found (c .before)))
