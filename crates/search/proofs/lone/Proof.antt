@@ -1,7 +1,7 @@
 -- `search::lone` meets its contract: each half that is reached has the one device.
 -- Assumes nothing.
 use mathlib.Core.Path.{_≡_, refl, sym, ap, _∙_}
-use mathlib.Core.List.{List, [], _∷_}
+use mathlib.Core.List.{[], _∷_}
 use Prim.Native.Nat.{ℕ, _+_, _-_, _*_, _/_, _≤_, _<_}
 use native.Mathlib.Omega.{arith}
 use lib.ListN.{drop}
@@ -10,7 +10,7 @@ use Rattle.groups.proofs.Follow.{group-is}
 use Rattle.groups.proofs.Powers.{at-most}
 use Rattle.search.specs.Searches.{inSet}
 use Rattle.search.specs.Inside.{Alone}
-use Rattle.search.proofs.Descent.{one-in, at-first, moved, near, half-wide, in-half, in-bytes}
+use Rattle.search.proofs.Descent.{one-in, at-first, moved, near, in-half, in-bytes}
 use Rattle.search.proofs.lone.Statement.{statement}
 use Rattle.search.proofs.lone.Tie as tie
 
