@@ -1,4 +1,5 @@
 pub mod WroteLaws
+pub mod NumeralLaws
 pub mod LinesLaws
 pub mod LengthLaws
 pub mod CyclesLaws

@@ -219,8 +219,8 @@ module _ (s : List ℕ) (at count size to : ℕ) (out₀ : List ℕ) (h : SplitH
             length-append (subcycleLines size 0 (cutBy ws (take (i + 1) zs))) (subcycleLines size (0 + length (cutBy ws (take (i + 1) zs))) (cutBy (drop (sum (take (i + 1) zs)) ws) (drop (i + 1) zs))),
           )
 
-      pub small : (size < 10000) × (i < 10000)
-      small = (omega (arith, size-small s at count size h), omega (arith, size-small s at count size h))
+      pub small : i < 10000
+      small = omega (arith, size-small s at count size h)
 
       pub part-here : WordsHere s w z size i q out
       unfolding part from ws zs

@@ -109,6 +109,15 @@ decimal-few n = go (ltb n 100)
     go true = omega (arith, two-few n)
     go false = omega (arith, two-few (n / 100), length-append (two (n / 100)) (digit (n / 10 % 10) ∷ []), length-append (two (n / 100) ++ digit (n / 10 % 10) ∷ []) (digit (n % 10) ∷ []))
 
+pub decimal-some : (n : ℕ) → 1 ≤ length (decimal n)
+unfolding decimal two
+decimal-some n = go (ltb n 100) (ltb n 10)
+  where
+    go : (t u : Bool) → 1 ≤ length (cond t (cond u (digit n ∷ []) (digit (n / 10) ∷ digit (n % 10) ∷ [])) ((two (n / 100) ++ digit (n / 10 % 10) ∷ []) ++ digit (n % 10) ∷ []))
+    go true true = omega arith
+    go true false = omega arith
+    go false u = omega (arith, length-append (two (n / 100) ++ digit (n / 10 % 10) ∷ []) (digit (n % 10) ∷ []))
+
 pub field-length : (n after : ℕ) → length (field n after) ≡ length (decimal n) + 1
 field-length n after = length-append (decimal n) (after ∷ [])
 

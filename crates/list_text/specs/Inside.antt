@@ -1,6 +1,6 @@
 -- What the functions inside this crate promise each other.
 -- Assumes nothing.
-use Prim.Native.Nat.{ℕ, _+_, _≤_, _<_}
+use Prim.Native.Nat.{ℕ, _+_, _-_, _/_, _%_, _≤_, _<_}
 use mathlib.Core.Path.{_≡_}
 use mathlib.Core.List.{List, [], _∷_, _++_}
 use lib.ListN.{length, getD, take, drop}
@@ -10,7 +10,7 @@ use Rattle.lists.specs.Values.{Cycle, PeriodicList, cyclesOf, wordsOf}
 use Rattle.lists.specs.Sends.{subcycles}
 use Rattle.lists.specs.Reading.{took}
 use Rattle.list_laws.specs.Written.{cyclesNumbers, Obeys, file}
-use Rattle.list_text.specs.Text.{wordLines, subcycleLines, cycleLines, textOf}
+use Rattle.list_text.specs.Text.{decimal, wordLines, subcycleLines, cycleLines, textOf}
 use Rattle.periods.specs.Inside.{CycleHere, SplitHere, IsList}
 
 -- the lent bytes with some bytes written at a place
@@ -35,6 +35,25 @@ pub record WordsHere (s : List ℕ) (at many cycle sub to : ℕ) (out : List ℕ
   pub most : Most words
   pub bytes : drop at s ≡ written words ++ rest
   pub fits : Fits to (length (wordLines cycle sub words)) out
+
+-- the four bytes that are one number, the first its lowest
+unfoldable pub bytesOf : ℕ → List ℕ
+bytesOf x = x % 256 ∷ x / 256 % 256 ∷ x / 65536 % 256 ∷ x / 16777216 ∷ []
+
+-- so many of four bytes can be the digits of a number
+abbrev pub Counts : ℕ → Type 0
+Counts many = (1 ≤ many) × (many ≤ 4)
+
+-- the last so many of these bytes are the digits of a number
+pub record Shows (digits many n : ℕ) : Type 0 where
+  pub counts : many ≡ length (decimal n)
+  pub last : drop (4 - many) (bytesOf digits) ≡ decimal n
+
+-- so many words stand at a place, and their lines fit; the digits of their cycle are these
+pub record LinesHere (s : List ℕ) (at many digits count sub to : ℕ) (out : List ℕ) : Type 0 where
+  pub number : ℕ
+  pub shows : Shows digits count number
+  pub here : WordsHere s at many number sub to out
 
 -- some lines were written, and the list was read as far as the bytes after them
 abbrev pub LinesPut : List ℕ → ℕ → List ℕ → List ℕ → List ℕ → List ℕ → ℕ → ℕ → Type 0

@@ -1,4 +1,6 @@
 // The lines of words, Subcycle by Subcycle and cycle by cycle.
+use crate::numerals::Numeral;
+use crate::numerals::numeral_of;
 use crate::numerals::put_header;
 use crate::numerals::put_line;
 use lists::Header;
@@ -6,7 +8,7 @@ use lists::cycles_of;
 use numbers::sum_numbers;
 ghost use Prim.Native.Nat.{_<_};
 ghost use Rattle.list_text.specs.Text.{wordLines};
-ghost use Rattle.list_text.specs.Inside.{WordsHere, LinesPut, linesOf, SplitFits, CycleFits, SplitsKnown, CyclesHere, CyclesWrote, ListHere, TextFits, TextWrote};
+ghost use Rattle.list_text.specs.Inside.{LinesHere, LinesPut, linesOf, SplitFits, CycleFits, SplitsKnown, CyclesHere, CyclesWrote, ListHere, TextFits, TextWrote};
 
 // The places after what was read of the list, and after what was written.
 struct Places {
@@ -19,21 +21,22 @@ fn put_lines(
     list: &[u8],
     at: usize,
     many: usize,
-    cycle: u16,
+    cycle: Numeral,
     sub: u16,
     out: &mut [u8],
     to: usize,
 ) -> Places
-    requires { ⌜ (cycle < 10000) × (sub < 10000) × WordsHere (now list) at many cycle sub to (now out) ⌝ }
-    ensures { λ r. ⌜ ((h : WordsHere (now (list .entry)) at many cycle sub to (now (out .entry)))
-        → LinesPut (now (list .entry)) to (wordLines cycle sub (h .words)) (h .rest) (now (out .entry)) (now (out .exit)) (r .to) (r .next)) ⌝ }
+    requires { ⌜ (sub < 10000) × LinesHere (now list) at many (cycle .digits) (cycle .many) sub to (now out) ⌝ }
+    ensures { λ r. ⌜ ((h : LinesHere (now (list .entry)) at many (cycle .digits) (cycle .many) sub to (now (out .entry)))
+        → LinesPut (now (list .entry)) to (wordLines (h .number) sub (h .here .words)) (h .here .rest) (now (out .entry)) (now (out .exit)) (r .to) (r .next)) ⌝ }
 {
+    let subcycle = numeral_of(sub);
     let mut p = at;
     let mut q = to;
     let mut i: usize = 0;
     while i < many {
         let w = sum_numbers(list, p, 1);
-        q = put_line(out, q, cycle, sub, w.total as u16);
+        q = put_line(out, q, cycle, subcycle, w.total as u16);
         p = w.next;
         i += 1;
     }
@@ -45,14 +48,14 @@ fn put_subcycle(
     list: &[u8],
     at: usize,
     many: usize,
-    cycle: u16,
+    cycle: Numeral,
     sub: u16,
     out: &mut [u8],
     to: usize,
 ) -> Places
-    requires { ⌜ (cycle < 10000) × (sub < 10000) × WordsHere (now list) at many cycle sub to (now out) ⌝ }
-    ensures { λ r. ⌜ ((h : WordsHere (now (list .entry)) at many cycle sub to (now (out .entry)))
-        → LinesPut (now (list .entry)) to (wordLines cycle sub (h .words)) (h .rest) (now (out .entry)) (now (out .exit)) (r .to) (r .next)) ⌝ }
+    requires { ⌜ (sub < 10000) × LinesHere (now list) at many (cycle .digits) (cycle .many) sub to (now out) ⌝ }
+    ensures { λ r. ⌜ ((h : LinesHere (now (list .entry)) at many (cycle .digits) (cycle .many) sub to (now (out .entry)))
+        → LinesPut (now (list .entry)) to (wordLines (h .number) sub (h .here .words)) (h .here .rest) (now (out .entry)) (now (out .exit)) (r .to) (r .next)) ⌝ }
 {
     if many == 0 {
         return Places { next: at, to };
@@ -66,13 +69,14 @@ fn put_split(list: &[u8], at: usize, splits: usize, size: u16, out: &mut [u8], t
     ensures { λ r. ⌜ ((k : SplitFits (now (list .entry)) at splits size to (now (out .entry)))
         → LinesPut (now (list .entry)) to (linesOf size (k .here .c)) (k .here .rest) (now (out .entry)) (now (out .exit)) (r .to) (r .next)) ⌝ }
 {
+    let cycle = numeral_of(size);
     let mut p = splits;
     let mut w = at;
     let mut q = to;
     let mut i: u16 = 0;
     while i < size {
         let z = sum_numbers(list, p, 1);
-        let l = put_subcycle(list, w, z.total, size, i, out, q);
+        let l = put_subcycle(list, w, z.total, cycle, i, out, q);
         w = l.next;
         q = l.to;
         p = z.next;
@@ -90,7 +94,8 @@ fn put_cycle(list: &[u8], at: usize, splits: usize, size: u16, out: &mut [u8], t
     let c = sum_numbers(list, at, 1);
     let count = c.total;
     if size == 1 {
-        return put_lines(list, c.next, count, size, 0, out, to);
+        let cycle = numeral_of(size);
+        return put_lines(list, c.next, count, cycle, 0, out, to);
     }
     if count == 0 {
         return Places { next: c.next, to };

@@ -1,10 +1,10 @@
 // Bytes and numerals, written at a place: the answer is the place after them.
 ghost use mathlib.Core.Path.{_≡_};
 ghost use mathlib.Core.List.{[], _∷_, _++_};
-ghost use Prim.Native.Nat.{_+_, _<_};
+ghost use Prim.Native.Nat.{ℕ, _+_, _<_};
 ghost use lib.ListN.{length};
 ghost use Rattle.list_text.specs.Text.{digit, two, decimal, hex, headerLine, wordLine, refusedLine};
-ghost use Rattle.list_text.specs.Inside.{Fits, Wrote};
+ghost use Rattle.list_text.specs.Inside.{Fits, Wrote, bytesOf, Counts, Shows};
 
 fn digit_of(d: u16) -> u8
     requires { ⌜ d < 16 ⌝ }
@@ -97,15 +97,79 @@ pub(crate) fn put_header(
     put_field(out, c, words, b'\n')
 }
 
-// A word, its cycle and its Subcycle.
-pub(crate) fn put_line(out: &mut [u8], at: usize, cycle: u16, sub: u16, w: u16) -> usize
-    requires { ⌜ (cycle < 10000) × (sub < 10000) × Fits at (length (wordLine cycle sub w)) (now out) ⌝ }
-    ensures { λ r. ⌜ Wrote at (wordLine cycle sub w) (now (out .entry)) (now (out .exit)) r ⌝ }
+// The digits of a number in decimal: the last so many of four bytes. The four are one number, the first its lowest byte,
+// so that they are stored at once.
+pub(crate) struct Numeral {
+    digits: u32,
+    many: usize,
+}
+
+// Four bytes as one number.
+fn four(a: u8, b: u8, c: u8, d: u8) -> u32
+    ensures { λ r. ⌜ bytesOf r ≡ a ∷ b ∷ c ∷ d ∷ [] ⌝ }
 {
-    let a = put_hex(out, at, w);
-    let b = put_byte(out, a, b' ');
-    let c = put_field(out, b, cycle, b' ');
-    put_field(out, c, sub, b'\n')
+    (a as u32) + 256 * (b as u32) + 65536 * (c as u32) + 16777216 * (d as u32)
+}
+
+// A number below 10,000.
+pub(crate) fn numeral_of(n: u16) -> Numeral
+    requires { ⌜ n < 10000 ⌝ }
+    ensures { λ r. ⌜ Shows (r .digits) (r .many) n ⌝ }
+{
+    let ones = digit_of(n % 10);
+    if n < 10 {
+        return Numeral {
+            digits: four(0, 0, 0, ones),
+            many: 1,
+        };
+    }
+    let tens = digit_of(n / 10 % 10);
+    if n < 100 {
+        return Numeral {
+            digits: four(0, 0, tens, ones),
+            many: 2,
+        };
+    }
+    let hundreds = digit_of(n / 100 % 10);
+    if n < 1000 {
+        return Numeral {
+            digits: four(0, hundreds, tens, ones),
+            many: 3,
+        };
+    }
+    let thousands = digit_of(n / 1000);
+    Numeral {
+        digits: four(thousands, hundreds, tens, ones),
+        many: 4,
+    }
+}
+
+// All four bytes of a numeral, and a byte after them.
+fn put_bytes(out: &mut [u8], at: usize, digits: u32, after: u8) -> usize
+    requires { ⌜ Fits at 5 (now out) ⌝ }
+    ensures { λ r. ⌜ Wrote at (bytesOf digits ++ after ∷ []) (now (out .entry)) (now (out .exit)) r ⌝ }
+{
+    let a = (digits % 256) as u8;
+    let b = (digits / 256 % 256) as u8;
+    let c = (digits / 65536 % 256) as u8;
+    let d = (digits / 16777216) as u8;
+    let p = put_four(out, at, a, b, c, d);
+    put_byte(out, p, after)
+}
+
+// A word, its cycle and its Subcycle, the last first: each is written over those of the four bytes behind it that are no
+// digits.
+pub(crate) fn put_line(out: &mut [u8], at: usize, cycle: Numeral, sub: Numeral, w: u16) -> usize
+    requires { ⌜ Counts (cycle .many) × Counts (sub .many) × Fits at (7 + cycle .many + sub .many) (now out) ⌝ }
+    ensures { λ r. ⌜ ((c s : ℕ) → Shows (cycle .digits) (cycle .many) c → Shows (sub .digits) (sub .many) s → Wrote at (wordLine c s w) (now (out .entry)) (now (out .exit)) r) ⌝ }
+{
+    let c = at + 1 + cycle.many;
+    let s = c + 1 + sub.many;
+    let end = put_bytes(out, s, sub.digits, b'\n');
+    put_bytes(out, c, cycle.digits, b' ');
+    let p = put_hex(out, at, w);
+    put_byte(out, p, b' ');
+    end
 }
 
 // A refusal and its number.

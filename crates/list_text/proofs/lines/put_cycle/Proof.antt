@@ -8,10 +8,17 @@ use Rattle.list_text.proofs.lines.put_cycle.Statement.{statement}
 use Rattle.list_text.proofs.lines.put_cycle.Tie as tie
 
 put-lines-requires : tie.Need-put-lines-requires
-put-lines-requires c κs = (omega arith, omega arith, all-here (c .before .before .before .before .before .args .list .now) (c .before .before .before .before .before .args .at) (c .before .before .before .before .before .args .size) (c .before .before .before .before .before .args .to) (c .before .before .before .before .before .args .out .now) (c .before .before .before .before .before .pre .here) (c .before .before .before .before .before .pre .fits) _ _ (c .before .before .sum-numbers .ensures) (c .before .if1 .taken))
+put-lines-requires c κs =
+    let a = c .before .before .before .before .before .before .args in
+    let k = c .before .before .before .before .before .before .pre in
+    (omega arith, record { number = a .size; shows = c .before .numeral-of .ensures; here = all-here (a .list .now) (a .at) (a .size) (a .to) (a .out .now) (k .here) (k .fits) _ _ (c .before .before .before .sum-numbers .ensures) (c .before .before .if1 .taken) })
 
 returns : tie.Need-returns
-returns c k = all-put (c .before .before .before .before .before .before .before .before .args .list .now) (c .before .before .before .before .before .before .before .before .args .at) (c .before .before .before .before .before .before .before .before .args .size) (c .before .before .before .before .before .before .before .before .args .to) (c .before .before .before .before .before .before .before .before .args .out .now) (k .here) (k .fits) _ _ (c .before .before .before .before .before .sum-numbers .ensures) (c .before .before .before .before .if1 .taken) _ (c .before .before .put-lines .result .to) (c .before .before .put-lines .result .next) (c .before .before .put-lines .ensures (all-here (c .before .before .before .before .before .before .before .before .args .list .now) (c .before .before .before .before .before .before .before .before .args .at) (c .before .before .before .before .before .before .before .before .args .size) (c .before .before .before .before .before .before .before .before .args .to) (c .before .before .before .before .before .before .before .before .args .out .now) (k .here) (k .fits) _ _ (c .before .before .before .before .before .sum-numbers .ensures) (c .before .before .before .before .if1 .taken)))
+returns c k =
+    let a = c .before .before .before .before .before .before .before .before .before .args in
+    let l = c .before .before .put-lines in
+    all-put (a .list .now) (a .at) (a .size) (a .to) (a .out .now) (k .here) (k .fits) _ _ (c .before .before .before .before .before .before .sum-numbers .ensures) (c .before .before .before .before .before .if1 .taken) _ (l .result .to) (l .result .next)
+    (l .ensures (record { number = a .size; shows = c .before .before .before .before .numeral-of .ensures; here = all-here (a .list .now) (a .at) (a .size) (a .to) (a .out .now) (k .here) (k .fits) _ _ (c .before .before .before .before .before .before .sum-numbers .ensures) (c .before .before .before .before .before .if1 .taken) }))
 
 returns-2 : tie.Need-returns-2
 returns-2 c k = none-put (c .before .before .before .before .before .args .list .now) (c .before .before .before .before .before .args .at) (c .before .before .before .before .before .args .size) (c .before .before .before .before .before .args .to) (c .before .before .before .before .before .args .out .now) (k .here) (k .fits) _ _ (c .before .before .sum-numbers .ensures) (c .if2 .taken)
@@ -26,6 +33,7 @@ pub put-cycle-spec : {M : Type 1} → statement M
 put-cycle-spec =
     tie.close
     (tie.spec
+    (λ c κs. search needs)
     (λ c κs. search needs)
     put-lines-requires
     (λ c. search needs)

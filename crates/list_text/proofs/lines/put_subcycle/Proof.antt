@@ -9,7 +9,7 @@ use Rattle.list_text.proofs.lines.put_subcycle.Tie as tie
 returns : tie.Need-returns
 returns c h =
     let a = c .before .before .before .args in
-    lines-end (a .list .now) (a .at) (a .many) (a .cycle) (a .sub) (a .to) (a .out .now) h (a .out .now) (a .at) (a .to) 0 (lines-start (a .list .now) (a .at) (a .many) (a .cycle) (a .sub) (a .to) (a .out .now) h) (omega arith)
+    lines-end (a .list .now) (a .at) (a .many) (h .number) (a .sub) (a .to) (a .out .now) (h .here) (a .out .now) (a .at) (a .to) 0 (lines-start (a .list .now) (a .at) (a .many) (h .number) (a .sub) (a .to) (a .out .now) (h .here)) (omega arith)
 
 pub put-subcycle-spec : {M : Type 1} → statement M
 put-subcycle-spec =
