@@ -6,7 +6,7 @@ use mathlib.Core.List.{List, [], _∷_, _++_}
 use mathlib.Core.Logic.{⊎-elim}
 use Prim.Native.Nat.{ℕ, zero, suc, _/_, _≤_, _<_}
 use native.Mathlib.Omega.{arith}
-use borrow.Author.Tests.{lt-ltb, le-ltb, ne-eqb}
+use borrow.Author.Tests.{lt-ltb, le-ltb, eq-eqb, ne-eqb}
 use types.Run.{OneOf}
 use denote.Enum.Declared.{tagOf}
 use lib.Dec.{ltb}
@@ -137,6 +137,14 @@ module _ (phase : ℕ) (bytes : List ℕ) where
 
   pub heard-other : length bytes ≡ 3 → ((getD bytes 0 0 / 16 ≡ 12) → ⊥) → getD bytes 1 0 < 256 → AsHeard phase bytes Collision
   heard-other l f b r p = ap (λ (v : Verdict). stepBy 8190 follows v r) (no-reply (r .m) (r .c) bytes l (λ e. f (omega arith)))
+
+  pub heard-none : length bytes ≡ 0 → AsHeard phase bytes Silence
+  unfolding answerOf
+  heard-none l r p = simp (eq-eqb (length bytes) 0 l)
+
+  pub heard-many : ((length bytes ≡ 0) → ⊥) → ((length bytes ≡ 3) → ⊥) → AsHeard phase bytes Collision
+  unfolding answerOf
+  heard-many n l r p = simp (ne-eqb (length bytes) 0 n, ne-eqb (length bytes) 3 l)
 
   pub heard-line : (a : LineAnswer) → toldLine a ≡ lineAnswer bytes → AsHeard phase bytes a
   heard-line a e r p = ap (stepOf r) (lines-apart a (answerOf bytes) e)

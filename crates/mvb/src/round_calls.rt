@@ -7,6 +7,7 @@ use rounds::Step;
 use search::Searched;
 ghost use mathlib.Core.Path.{_≡_};
 ghost use Prim.Native.Nat.{_≤_};
+ghost use lib.Dec.{ltb};
 ghost use lib.ListN.{length, getD};
 ghost use Rattle.refusals.specs.Codes.{toldCode};
 ghost use Rattle.mvb.specs.Rounds.{phaseOf, roundIn, stored, startAnswer, startRun, roundAnswer, roundRun};
@@ -107,17 +108,32 @@ pub extern "C" fn mvb_round_start(params: u16, run: &mut [u16]) -> u32
 }
 
 // What a round must know of the bytes that came: nothing after a read, whose answer it does not look at; and a word with
-// another F_code than 12 is no good reply, as a collision is none, so that its check sequence need not be computed.
+// another F_code than 12 is no good reply, as a collision is none, so that its check sequence need not be computed. Other
+// lengths than 3 come first, so that silence and collisions have a short way.
 fn heard(phase: u16, bytes: &[u8]) -> LineAnswer
     ensures { λ r. ⌜ AsHeard phase (now (bytes .entry)) r ⌝ }
 {
     if phase == 1 {
         return LineAnswer::Silence;
     }
-    if bytes.len() == 3 && bytes[0] / 16 != 12 {
+    if bytes.len() != 3 {
+        if bytes.len() != 0 {
+            return LineAnswer::Collision;
+        }
+        return LineAnswer::Silence;
+    }
+    if bytes[0] / 16 != 12 {
         return LineAnswer::Collision;
     }
     frames::line_answer(bytes)
+}
+
+// Whether a round in this phase has ended. As a function of its own, so that the compiler takes this test and the one for
+// a read from one compare.
+fn has_ended(phase: u16) -> bool
+    ensures { λ r. ⌜ r ≡ ltb 1 phase ⌝ }
+{
+    1 < phase
 }
 
 // Takes the bytes that came for the word handed out last: 4 for a run too short, before all else.
@@ -129,7 +145,7 @@ pub extern "C" fn mvb_round_answer(run: &mut [u16], bytes: &[u8]) -> u32
         let short = Refusal::TooShort;
         return short.code();
     }
-    if 1 < run[0] {
+    if has_ended(run[0]) {
         return END;
     }
     // Before the round is loaded, so that nothing of it is kept in registers meanwhile.
