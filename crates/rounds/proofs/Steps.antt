@@ -1,6 +1,6 @@
 -- What each way through a step's code returns is what the definition says.
 -- Assumes nothing.
-use mathlib.Core.Path.{_≡_, refl, sym, _∙_, subst}
+use mathlib.Core.Path.{_≡_, refl, ap, sym, _∙_, subst}
 use mathlib.Core.Bool.{Bool, true, false, cond, not, _&&_, _||_}
 use mathlib.Core.List.{[], _∷_}
 use mathlib.Core.Logic.{⊎-elim}
@@ -39,6 +39,7 @@ halfAt place = (1 * 2 ^ place) % 65536
 pub record Zero (m c place : ℕ) : Type 0 where
   pub low : place ≤ 11
   pub positive : 0 < halfAt place
+  pub power : halfAt place ≡ 2 ^ (11 - (11 - place))
   pub next : follows m c ≡ at (11 - place) (c % halfAt place + halfAt place)
   pub group : (n : ℕ) → Group (11 - place) (n % halfAt place + halfAt place)
 
@@ -50,6 +51,7 @@ zero-at m c j g l h =
     record {
       low = z .0;
       positive = rw (← e) (pow-pos j);
+      power = sym e ∙ ap (λ (k : ℕ). 2 ^ k) (let n : j ≡ 11 - (11 - j) = omega (arith, z .0) in n);
       next = rw (← e) (z .1);
       group = λ n. (omega arith, rw (← e, d) (omega (arith, mod-lt n (pow-pos j), doubled j)));
     }

@@ -5,7 +5,7 @@ use frames::LineAnswer;
 use refusals::Refusal;
 ghost use mathlib.Core.Path.{_≡_};
 ghost use mathlib.Core.Bool.{true};
-ghost use Prim.Native.Nat.{_+_, _≤_};
+ghost use Prim.Native.Nat.{_+_, _-_, _^_, _≤_};
 ghost use Rattle.groups.specs.Groups.{isGroup, over};
 ghost use Rattle.rounds.specs.Rounds.{countsOf, ask as askOf, stand, heard, judge, broken as brokenOf, oneRequest, oneRead, round, stepOf, startOf};
 ghost use Rattle.rounds.specs.Inside.{Sound, goodAnswer, goOnUnless, resumed};
@@ -102,7 +102,7 @@ impl Round {
         if !silent {
             let m = self.m;
             if m != 0 {
-                return self.ask(m - 1, self.c);
+                return self.ask(m - 1, self.c, groups::bound(m));
             }
             self.unresolved = self.unresolved + 1;
         }
@@ -161,12 +161,12 @@ impl Round {
         }
         let place = 15 - u16::leading_zeros(above);
         let half = 1u16 << place;
-        self.ask(11 - place as u16, self.c % half + half)
+        self.ask(11 - place as u16, self.c % half + half, half)
     }
 
-    // Hands out the request for the group {m, c}, m at most 11.
-    fn ask(self, m: u16, c: u16) -> Step
-        requires { ⌜ (isGroup m c ≡ true) × (m ≤ 11) ⌝ }
+    // Hands out the request for the group {m, c}, m at most 11. Half of its bound has been computed on the way to it.
+    fn ask(self, m: u16, c: u16, half: u16) -> Step
+        requires { ⌜ (isGroup m c ≡ true) × (m ≤ 11) × (half ≡ 2 ^ (11 - m)) ⌝ }
         ensures { λ r. ⌜ r ≡ askOf m c (countsOf self) ⌝ }
     {
         let round = Round {
@@ -177,7 +177,7 @@ impl Round {
             reads: self.reads,
             unresolved: self.unresolved,
         };
-        Step::Next(round, words::group_word(m, c))
+        Step::Next(round, words::group_word(half, c))
     }
 
     // Ends the round.

@@ -53,7 +53,7 @@ add-ask : tie.Need-add-ask
 add-ask c = record { fits = lt-of-lt-of-le (c-small _ _ (highest (c .before .before) .1 .group _ .1)) (lit≤ tt) }
 
 ask-requires : tie.Need-ask-requires
-ask-requires c κs = (is-group _ _ (highest (c .before .before) .1 .group _), omega arith)
+ask-requires c κs = (is-group _ _ (highest (c .before .before) .1 .group _), omega arith, highest (c .before .before) .1 .power)
 
 returns-3 : tie.Need-returns-3
 returns-3 c =

@@ -1,9 +1,9 @@
 -- `rounds::Round::take` meets its contract: a good reply; the lower half; silence, or one unresolved device.
 -- Assumes nothing.
-use mathlib.Core.Path.{_≡_, _∙_, sym, subst}
+use mathlib.Core.Path.{_≡_, _∙_, ap, sym, subst}
 use mathlib.Core.Bool.{true}
 use mathlib.Core.Logic.{⊎-elim}
-use Prim.Native.Nat.{_-_}
+use Prim.Native.Nat.{ℕ, _-_, _^_}
 use native.Mathlib.Omega.{arith}
 use native.Mathlib.Nat.{lt-of-lt-of-le}
 use lib.Pow.{pow-mono}
@@ -36,18 +36,20 @@ returns c =
 
 ask-requires : tie.Need-ask-requires
 ask-requires c κs =
-    let b = c .before .before .before .before in
+    let b = c .before .before .before .before .before in
     let a = b .args .self in
-    let g = group-is (a .m) (a .c) (b .pre .group) in (
+    let g = group-is (a .m) (a .c) (b .pre .group) in
+    let n : 12 - a .m ≡ 11 - (a .m - 1) = omega (arith, c .before .if3 .taken) in (
       is-group (a .m - 1) (a .c) (omega arith, lt-of-lt-of-le (g .1) (pow-mono {i = 12 - a .m} {j = 12 - (a .m - 1)} (omega arith))),
       omega arith,
+      c .bound .ensures ∙ ap (λ (k : ℕ). 2 ^ k) n,
     )
 
 returns-2 : tie.Need-returns-2
 returns-2 c =
-    let b = c .before .before in
+    let b = c .before .before .before in
     let a = b .before .before .before .args in
-    take-lower (a .self .m) (a .self .c) (oneRequest (countsOf (a .self))) (a .answer) (c .ask .result) (b .before .match .silent) (judged (b .before)) (b .if2 .taken) (c .before .if3 .taken) (c .ask .ensures)
+    take-lower (a .self .m) (a .self .c) (oneRequest (countsOf (a .self))) (a .answer) (c .ask .result) (b .before .match .silent) (judged (b .before)) (b .if2 .taken) (c .before .before .if3 .taken) (c .ask .ensures)
 
 next-requires : tie.Need-next-requires
 next-requires c κs =
@@ -82,6 +84,7 @@ take-spec =
     returns
     (λ c. search needs)
     (λ c. search needs)
+    (λ c κs. search needs)
     ask-requires
     returns-2
     (λ c. search needs)
