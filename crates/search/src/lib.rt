@@ -204,6 +204,7 @@ fn walk(
     } else {
         walk(any, two, out, at, m - 1, c)
     };
+    // 2^(12-M), from the number at which the marks of both halves begin.
     let upper = c + first_mark(m - 1) / 2;
     let high = if settled(any, two, out, at, m - 1, upper) {
         1
