@@ -1,15 +1,15 @@
 -- The orders of checks, way out by way out: what each answers, and what the output holds then.
 -- Assumes nothing.
-use mathlib.Core.Path.{_≡_, sym, ap, ap₂, _∙_}
+use mathlib.Core.Path.{_≡_, refl, sym, ap, ap₂, _∙_}
 use mathlib.Core.Bool.{Bool, true, false, not}
 use mathlib.Core.List.{List, [], _∷_, _++_}
-use Prim.Native.Nat.{ℕ, _+_, _*_, _≤_, _<_}
+use Prim.Native.Nat.{ℕ, zero, suc, _+_, _*_, _≤_, _<_}
 use native.Mathlib.Omega.{arith}
 use borrow.Author.Tests.{eq-eqb, ne-eqb, lt-ltb, le-ltb, not-true, not-false}
 use lib.ListN.{length, drop}
 use Rattle.refusals.specs.Told.{gives, refusal}
 use Rattle.frames.specs.Words.{fCode, wordIn, wordBytes}
-use Rattle.rows.specs.Rows.{reserved, dataBytes, blocks, blockBytes, frameBytes}
+use Rattle.rows.specs.Rows.{dataBits, reserved, dataBytes, blocks, blockBytes, frameBytes}
 use Rattle.frames.specs.Blocks.{rightBlocks, dataIn, framed}
 use Rattle.frames.specs.Master.{masterFrame, masterRead, masterWrite, masterWriteOut}
 use Rattle.frames.specs.Slave.{slaveFrame, slaveData, slaveReadBy, slaveRead, slaveReadOut, slaveWriteBy, slaveWrite, slaveWriteOut}
@@ -19,6 +19,16 @@ use Rattle.frames.specs.declared.LineAnswer.the-variants.{Silence, Reply
 use Rattle.rows.proofs.Rows.{full, whole, lone-word}
 
 -- ---- what the code's test of `allowed` shows
+
+-- Process Data
+pub process-data : (f : ℕ) → f < 5 → true ≡ not (reserved f)
+unfolding reserved dataBits
+process-data zero h = refl
+process-data (suc zero) h = refl
+process-data (suc (suc zero)) h = refl
+process-data (suc (suc (suc zero))) h = refl
+process-data (suc (suc (suc (suc zero)))) h = refl
+process-data (suc (suc (suc (suc (suc f))))) h = absurd (omega arith)
 
 pub is-reserved : (allowed r : Bool) → allowed ≡ not r → not allowed ≡ true → r ≡ true
 is-reserved allowed r e h = not-false r (sym e ∙ not-true allowed h)

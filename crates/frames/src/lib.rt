@@ -29,7 +29,8 @@ pub enum LineAnswer {
     Collision,
 }
 
-// Reads a Master Frame: a word and its check sequence.
+// Reads a Master Frame: a word and its check sequence. Most of those on a bus ask for Process Data, F_codes 0 to 4: these
+// have the shortest way.
 pub fn master_read(frame: &[u8]) -> MasterRead
     ensures { λ r. ⌜ toldWord r ≡ masterRead (now (frame .entry)) ⌝ }
 {
@@ -40,7 +41,11 @@ pub fn master_read(frame: &[u8]) -> MasterRead
         return MasterRead::Refused(Refusal::WrongCheck);
     }
     let word = shapes::word_of(frame[0], frame[1]);
-    if !shapes::allowed(shapes::f_code_of(word)) {
+    let f_code = shapes::f_code_of(word);
+    if f_code < 5 {
+        return MasterRead::Word(word);
+    }
+    if !shapes::allowed(f_code) {
         return MasterRead::Refused(Refusal::ReservedFcode);
     }
     MasterRead::Word(word)
