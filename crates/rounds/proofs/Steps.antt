@@ -147,9 +147,13 @@ module _ (r : Round) (a : LineAnswer) (s : Step) where
   unfolding stepBy
   answer-broken p q f b e = simp (q, f, b) e
 
-  pub answer-full : r .phase ≡ Asked → broken r ≡ false → 8190 < r .requests → s ≡ Refused ImpossibleRound → s ≡ stepOf r a
+  pub answer-full : r .phase ≡ Asked → 8190 < r .requests → s ≡ Refused ImpossibleRound → s ≡ stepOf r a
   unfolding stepBy
-  answer-full p b l e = simp (p, b, lt-ltb _ _ l) e
+  answer-full p l e = either (broken r) refl
+    where
+      either : (b : Bool) → broken r ≡ b → s ≡ stepOf r a
+      either true b = answer-broken Asked p refl b e
+      either false b = simp (p, b, lt-ltb _ _ l) e
 
   pub answer-taken : r .phase ≡ Asked → broken r ≡ false → r .requests ≤ 8190 → s ≡ heard (judge (r .m) (r .c) a) (r .m) (r .c) (oneRequest (countsOf r)) → s ≡ stepOf r a
   unfolding stepBy

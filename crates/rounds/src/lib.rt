@@ -74,7 +74,8 @@ impl Round {
                 self.resume(answer)
             }
             Phase::Asked => {
-                if self.broken() || 8190 < self.requests {
+                // The requests come first: so the compiler has one number less to keep in registers.
+                if 8190 < self.requests || self.broken() {
                     return Step::Refused(Refusal::ImpossibleRound);
                 }
                 self.take(answer)

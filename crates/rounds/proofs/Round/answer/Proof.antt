@@ -4,7 +4,6 @@ use mathlib.Core.Path.{_≡_, _∙_, sym, ap, refl}
 use mathlib.Core.Bool.{false}
 use mathlib.Core.Logic.{⊎-elim}
 use borrow.Author.Needs.{needs}
-use borrow.Author.Tests.{ltb-true, ltb-false}
 use Rattle.rounds.specs.declared.Phase.the-variants.{Asked, Read}
 use Rattle.rounds.specs.declared.Step.the-variants.{End}
 use Rattle.rounds.specs.Rounds.{broken}
@@ -17,8 +16,8 @@ use Rattle.rounds.proofs.Round.answer.Tie as tie
 fit-to-read : (c : tie.Else1) → broken (c .before .before .before .before .args .self) ≡ false
 fit-to-read c = sym (c .before .broken .ensures) ∙ c .if1 .left
 
-fit-to-ask : (c : tie.Else2) → broken (c .before .before .before .before .args .self) ≡ false
-fit-to-ask c = sym (c .before .broken2 .ensures) ∙ c .if2 .left
+fit-to-ask : (c : tie.Else3) → broken (c .before .before .before .before .before .before .args .self) ≡ false
+fit-to-ask c = sym (c .before .broken2 .ensures) ∙ c .if3 .left
 
 returns : tie.Need-returns
 returns c =
@@ -34,12 +33,12 @@ returns-2 c =
     let b = c .before .before in
     let a = b .before .before .args in
     ⊎-elim
-    (λ t. ap told (answer-broken (a .self) (a .answer) _ Asked (b .enum-told3 .given .1) refl (sym (c .before .broken2 .ensures) ∙ t .taken) refl))
-    (λ t. ap told (answer-full (a .self) (a .answer) _ (b .enum-told3 .given .1) (sym (c .before .broken2 .ensures) ∙ t .0 .left) (ltb-true _ _ (t .2 .taken)) refl))
+    (λ t. ap told (answer-full (a .self) (a .answer) _ (b .enum-told3 .given .1) (t .taken) refl))
+    (λ t. ap told (answer-broken (a .self) (a .answer) _ Asked (b .enum-told3 .given .1) refl (sym (t .1 .ensures) ∙ t .2 .taken) refl))
     (c .if2 .came)
 
 take-requires : tie.Need-take-requires
-take-requires c κs = sound (c .before .before .before .before .before .before .args .self) (fit-to-ask (c .before .before)) (ltb-false _ _ (c .if3 .left))
+take-requires c κs = sound (c .before .before .before .before .before .before .args .self) (fit-to-ask c) (c .before .before .if2 .left)
 
 returns-3 : tie.Need-returns-3
 returns-3 c =
@@ -54,10 +53,10 @@ returns-4 c =
 
 returns-5 : tie.Need-returns-5
 returns-5 c =
-    let e = c .before .before .before in
-    let b = e .before .before in
+    let few : tie.Else2 = c .before .before .before in
+    let b = few .before .before in
     let a = b .before .before .args in
-    ap told (answer-taken (a .self) (a .answer) (c .take .result) (b .enum-told3 .given .1) (fit-to-ask e) (ltb-false _ _ (c .before .if3 .left)) (c .take .ensures))
+    ap told (answer-taken (a .self) (a .answer) (c .take .result) (b .enum-told3 .given .1) (fit-to-ask (c .before)) (few .if2 .left) (c .take .ensures))
 
 pub answer-spec : {M : Type 1} → statement M
 answer-spec =
