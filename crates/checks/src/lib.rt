@@ -1,4 +1,6 @@
 // The check sequence of a block (document 01, "Frames"; 001, 6.1.3).
+#![tactic(auto)]
+
 ghost use Rattle.std.specs.Prelude.{◌≡◌, [], ◌∷◌, ◌+◌, ◌*◌, ◌/◌, ◌%◌, ◌^◌, ◌<◌, length};
 ghost use Rattle.checks.specs.Bits.{bits, bits_of, number};
 ghost use Rattle.checks.specs.Check.{plain, check_of};

@@ -7,6 +7,7 @@ use Prim.Native.Nat.{ℕ, ◌<◌}
 use native.Mathlib.Omega.{arith}
 use base.Logic.{emp, id⊢}
 use contract.Monad.{fact}
+use contract.Running.{within}
 use lib.ListN.{length-map}
 use denote.Ref.{at_last}
 use Rattle.refusals.proofs as refusals
@@ -50,6 +51,8 @@ use Rattle.demands.proofs.Chains.{answers, told_so}
 use Rattle.demands.proofs.RefusedCalls as calls
 use Rattle.demands.proofs.RefusedLists as file
 use Rattle.demands.proofs.RefusedPorts as port
+use Rattle.demands.specs.Program.{program}
+use Rattle.demands.proofs.Wired as has
 use Rattle.demands.proofs.Shown.{said, two, Shown, EachShown}
 
 -- the line's answer is no refusal
@@ -75,7 +78,7 @@ run_is e f i = record { count = e i; next = f i }
 
 pub refusal_number : Shown table.refusal_number
 refusal_number = record {
-  promised = λ M 𝓤 𝓛 𝓜 𝓡. refusals.Refusal.number.Met.met 𝓤 𝓛 𝓜 𝓡;
+  promised = λ M 𝓤 𝓛 𝓜 𝓡. refusals.Refusal.number.Met.met 𝓤 𝓛 𝓜 (within 𝓤 𝓛.H 𝓜 𝓡 program) has.refusals_Refusal_number;
   says = said table.refusal_number _ (λ M 𝓤 𝓛 mem run κs a. refl);
   refusing = λ κs a r ws c. answers _;
   one = λ κs a r s ws vs c d. (c ∙ sym d, refl);
@@ -83,7 +86,7 @@ refusal_number = record {
 
 pub refusal_code : Shown table.refusal_code
 refusal_code = record {
-  promised = λ M 𝓤 𝓛 𝓜 𝓡. refusals.Refusal.code.Met.met 𝓤 𝓛 𝓜 𝓡;
+  promised = λ M 𝓤 𝓛 𝓜 𝓡. refusals.Refusal.code.Met.met 𝓤 𝓛 𝓜 (within 𝓤 𝓛.H 𝓜 𝓡 program) has.refusals_Refusal_code;
   says = said table.refusal_code _ (λ M 𝓤 𝓛 mem run κs a. refl);
   refusing = λ κs a r ws c. answers _;
   one = λ κs a r s ws vs c d. (c ∙ sym d, refl);
@@ -91,7 +94,7 @@ refusal_code = record {
 
 pub check_of : Shown table.check_of
 check_of = record {
-  promised = λ M 𝓤 𝓛 𝓜 𝓡. checks.check_of.Met.met 𝓤 𝓛 𝓜 𝓡;
+  promised = λ M 𝓤 𝓛 𝓜 𝓡. checks.check_of.Met.met 𝓤 𝓛 𝓜 (within 𝓤 𝓛.H 𝓜 𝓡 program) has.checks_check_of;
   says = said table.check_of _ (λ M 𝓤 𝓛 mem run κs a. refl);
   refusing = λ κs a r ws c. answers _;
   one = λ κs a r s ws vs c d. (c ∙ sym d, refl);
@@ -99,7 +102,7 @@ check_of = record {
 
 pub check_of_word : Shown table.check_of_word
 check_of_word = record {
-  promised = λ M 𝓤 𝓛 𝓜 𝓡. checks.check_of_word.Met.met 𝓤 𝓛 𝓜 𝓡;
+  promised = λ M 𝓤 𝓛 𝓜 𝓡. checks.check_of_word.Met.met 𝓤 𝓛 𝓜 (within 𝓤 𝓛.H 𝓜 𝓡 program) has.checks_check_of_word;
   says = said table.check_of_word _ (λ M 𝓤 𝓛 mem run κs a. refl);
   refusing = λ κs a r ws c. answers _;
   one = λ κs a r s ws vs c d. (c ∙ sym d, refl);
@@ -107,7 +110,7 @@ check_of_word = record {
 
 pub row_of : Shown table.row_of
 row_of = record {
-  promised = λ M 𝓤 𝓛 𝓜 𝓡. row-table.row_of.Met.met 𝓤 𝓛 𝓜 𝓡;
+  promised = λ M 𝓤 𝓛 𝓜 𝓡. row-table.row_of.Met.met 𝓤 𝓛 𝓜 (within 𝓤 𝓛.H 𝓜 𝓡 program) has.rows_row_of;
   says = said table.row_of _ (λ M 𝓤 𝓛 mem run κs a. refl);
   refusing = λ κs a r ws c. answers _;
   one = λ κs a r s ws vs c d. (c ∙ sym d, refl);
@@ -115,7 +118,7 @@ row_of = record {
 
 pub master_read : Shown table.master_read
 master_read = record {
-  promised = λ M 𝓤 𝓛 𝓜 𝓡. frames.master_read.Met.met 𝓤 𝓛 𝓜 𝓡;
+  promised = λ M 𝓤 𝓛 𝓜 𝓡. frames.master_read.Met.met 𝓤 𝓛 𝓜 (within 𝓤 𝓛.H 𝓜 𝓡 program) has.frames_master_read;
   says = said table.master_read _ (λ M 𝓤 𝓛 mem run κs a. refl);
   refusing = λ κs a r ws c. told_so c (λ u. refl) (calls.master_read_lem a.0.now);
   one = λ κs a r s ws vs c d. (words_apart r s (c ∙ sym d), refl);
@@ -123,7 +126,7 @@ master_read = record {
 
 pub master_write : Shown table.master_write
 master_write = record {
-  promised = λ M 𝓤 𝓛 𝓜 𝓡. frames.master_write.Met.met 𝓤 𝓛 𝓜 𝓡;
+  promised = λ M 𝓤 𝓛 𝓜 𝓡. frames.master_write.Met.met 𝓤 𝓛 𝓜 (within 𝓤 𝓛.H 𝓜 𝓡 program) has.frames_master_write;
   says = said table.master_write _ (λ M 𝓤 𝓛 mem run κs a. refl);
   refusing = λ κs a r ws c. told_so c.0 (λ e. ap (λ (x : List ℕ). (a.0, (at_last a.1.0 x, tt))) (c.1 ∙ e)) (calls.master_write_lem a.0 a.1.0.now);
   one = λ κs a r s ws vs c d. (wrote_apart r s (c.0 ∙ sym d.0), ap (λ (x : List ℕ). (tt, (x, tt))) (c.1 ∙ sym d.1));
@@ -131,7 +134,7 @@ master_write = record {
 
 pub slave_read : Shown table.slave_read
 slave_read = record {
-  promised = λ M 𝓤 𝓛 𝓜 𝓡. frames.slave_read.Met.met 𝓤 𝓛 𝓜 𝓡;
+  promised = λ M 𝓤 𝓛 𝓜 𝓡. frames.slave_read.Met.met 𝓤 𝓛 𝓜 (within 𝓤 𝓛.H 𝓜 𝓡 program) has.frames_slave_read;
   says = said table.slave_read _ (λ M 𝓤 𝓛 mem run κs a. refl);
   refusing = λ κs a r ws c. told_so c.0 (λ e. ap (λ (x : List ℕ). (a.0, (a.1.0, (at_last a.1.1.0 x, tt)))) (c.1 ∙ e)) (calls.slave_read_lem a.0 a.1.0.now a.1.1.0.now);
   one = λ κs a r s ws vs c d. (wrote_apart r s (c.0 ∙ sym d.0), ap (λ (x : List ℕ). (tt, (tt, (x, tt)))) (c.1 ∙ sym d.1));
@@ -139,7 +142,7 @@ slave_read = record {
 
 pub slave_write : Shown table.slave_write
 slave_write = record {
-  promised = λ M 𝓤 𝓛 𝓜 𝓡. frames.slave_write.Met.met 𝓤 𝓛 𝓜 𝓡;
+  promised = λ M 𝓤 𝓛 𝓜 𝓡. frames.slave_write.Met.met 𝓤 𝓛 𝓜 (within 𝓤 𝓛.H 𝓜 𝓡 program) has.frames_slave_write;
   says = said table.slave_write _ (λ M 𝓤 𝓛 mem run κs a. refl);
   refusing = λ κs a r ws c. told_so c.0 (λ e. ap (λ (x : List ℕ). (a.0, (a.1.0, (at_last a.1.1.0 x, tt)))) (c.1 ∙ e)) (calls.slave_write_lem a.0 a.1.0.now a.1.1.0.now);
   one = λ κs a r s ws vs c d. (wrote_apart r s (c.0 ∙ sym d.0), ap (λ (x : List ℕ). (tt, (tt, (x, tt)))) (c.1 ∙ sym d.1));
@@ -147,7 +150,7 @@ slave_write = record {
 
 pub line_answer : Shown table.line_answer
 line_answer = record {
-  promised = λ M 𝓤 𝓛 𝓜 𝓡. frames.line_answer.Met.met 𝓤 𝓛 𝓜 𝓡;
+  promised = λ M 𝓤 𝓛 𝓜 𝓡. frames.line_answer.Met.met 𝓤 𝓛 𝓜 (within 𝓤 𝓛.H 𝓜 𝓡 program) has.frames_line_answer;
   says = said table.line_answer _ (λ M 𝓤 𝓛 mem run κs a. refl);
   refusing = λ κs a r ws c. told_so c (λ u. u) (line_tells (answer_of a.0.now));
   one = λ κs a r s ws vs c d. (lines_apart r s (c ∙ sym d), refl);
@@ -155,7 +158,7 @@ line_answer = record {
 
 pub mvb_check_of : Shown table.mvb_check_of
 mvb_check_of = record {
-  promised = λ M 𝓤 𝓛 𝓜 𝓡. mvb.frame_calls.mvb_check_of.Met.met 𝓤 𝓛 𝓜 𝓡;
+  promised = λ M 𝓤 𝓛 𝓜 𝓡. mvb.frame_calls.mvb_check_of.Met.met 𝓤 𝓛 𝓜 (within 𝓤 𝓛.H 𝓜 𝓡 program) has.mvb_frame_calls_mvb_check_of;
   says = said table.mvb_check_of _ (λ M 𝓤 𝓛 mem run κs a. refl);
   refusing = λ κs a r ws c. told_so (value_told r (omega (arith, c, check_small a.0.now))) (λ u. u) (answers _);
   one = λ κs a r s ws vs c d. (c ∙ sym d, refl);
@@ -163,7 +166,7 @@ mvb_check_of = record {
 
 pub mvb_master_read : Shown table.mvb_master_read
 mvb_master_read = record {
-  promised = λ M 𝓤 𝓛 𝓜 𝓡. mvb.frame_calls.mvb_master_read.Met.met 𝓤 𝓛 𝓜 𝓡;
+  promised = λ M 𝓤 𝓛 𝓜 𝓡. mvb.frame_calls.mvb_master_read.Met.met 𝓤 𝓛 𝓜 (within 𝓤 𝓛.H 𝓜 𝓡 program) has.mvb_frame_calls_mvb_master_read;
   says = said table.mvb_master_read _ (λ M 𝓤 𝓛 mem run κs a. refl);
   refusing = λ κs a r ws c. told_so c (λ u. refl) (calls.master_read_lem a.0.now);
   one = λ κs a r s ws vs c d. (codes_apart r s (c ∙ sym d), refl);
@@ -171,7 +174,7 @@ mvb_master_read = record {
 
 pub mvb_master_write : Shown table.mvb_master_write
 mvb_master_write = record {
-  promised = λ M 𝓤 𝓛 𝓜 𝓡. mvb.frame_calls.mvb_master_write.Met.met 𝓤 𝓛 𝓜 𝓡;
+  promised = λ M 𝓤 𝓛 𝓜 𝓡. mvb.frame_calls.mvb_master_write.Met.met 𝓤 𝓛 𝓜 (within 𝓤 𝓛.H 𝓜 𝓡 program) has.mvb_frame_calls_mvb_master_write;
   says = said table.mvb_master_write _ (λ M 𝓤 𝓛 mem run κs a. refl);
   refusing = λ κs a r ws c. told_so c.0 (λ e. ap (λ (x : List ℕ). (a.0, (at_last a.1.0 x, tt))) (c.1 ∙ e)) (calls.master_write_lem a.0 a.1.0.now);
   one = λ κs a r s ws vs c d. (codes_apart r s (c.0 ∙ sym d.0), ap (λ (x : List ℕ). (tt, (x, tt))) (c.1 ∙ sym d.1));
@@ -179,7 +182,7 @@ mvb_master_write = record {
 
 pub mvb_slave_read : Shown table.mvb_slave_read
 mvb_slave_read = record {
-  promised = λ M 𝓤 𝓛 𝓜 𝓡. mvb.frame_calls.mvb_slave_read.Met.met 𝓤 𝓛 𝓜 𝓡;
+  promised = λ M 𝓤 𝓛 𝓜 𝓡. mvb.frame_calls.mvb_slave_read.Met.met 𝓤 𝓛 𝓜 (within 𝓤 𝓛.H 𝓜 𝓡 program) has.mvb_frame_calls_mvb_slave_read;
   says = said table.mvb_slave_read _ (λ M 𝓤 𝓛 mem run κs a. refl);
   refusing = λ κs a r ws c. told_so c.0 (λ e. ap (λ (x : List ℕ). (a.0, (a.1.0, (at_last a.1.1.0 x, tt)))) (c.1 ∙ e)) (calls.slave_read_lem a.0 a.1.0.now a.1.1.0.now);
   one = λ κs a r s ws vs c d. (codes_apart r s (c.0 ∙ sym d.0), ap (λ (x : List ℕ). (tt, (tt, (x, tt)))) (c.1 ∙ sym d.1));
@@ -187,7 +190,7 @@ mvb_slave_read = record {
 
 pub mvb_slave_write : Shown table.mvb_slave_write
 mvb_slave_write = record {
-  promised = λ M 𝓤 𝓛 𝓜 𝓡. mvb.frame_calls.mvb_slave_write.Met.met 𝓤 𝓛 𝓜 𝓡;
+  promised = λ M 𝓤 𝓛 𝓜 𝓡. mvb.frame_calls.mvb_slave_write.Met.met 𝓤 𝓛 𝓜 (within 𝓤 𝓛.H 𝓜 𝓡 program) has.mvb_frame_calls_mvb_slave_write;
   says = said table.mvb_slave_write _ (λ M 𝓤 𝓛 mem run κs a. refl);
   refusing = λ κs a r ws c. told_so c.0 (λ e. ap (λ (x : List ℕ). (a.0, (a.1.0, (at_last a.1.1.0 x, tt)))) (c.1 ∙ e)) (calls.slave_write_lem a.0 a.1.0.now a.1.1.0.now);
   one = λ κs a r s ws vs c d. (codes_apart r s (c.0 ∙ sym d.0), ap (λ (x : List ℕ). (tt, (tt, (x, tt)))) (c.1 ∙ sym d.1));
@@ -195,7 +198,7 @@ mvb_slave_write = record {
 
 pub telegram_bits : Shown table.telegram_bits
 telegram_bits = record {
-  promised = λ M 𝓤 𝓛 𝓜 𝓡. timing.telegram_bits.Met.met 𝓤 𝓛 𝓜 𝓡;
+  promised = λ M 𝓤 𝓛 𝓜 𝓡. timing.telegram_bits.Met.met 𝓤 𝓛 𝓜 (within 𝓤 𝓛.H 𝓜 𝓡 program) has.timing_telegram_bits;
   says = said table.telegram_bits _ (λ M 𝓤 𝓛 mem run κs a. refl);
   refusing = λ κs a r ws c. told_so c (λ u. refl) (calls.telegram a.0 a.1.0);
   one = λ κs a r s ws vs c d. (telegrams_apart r s (c ∙ sym d), refl);
@@ -203,7 +206,7 @@ telegram_bits = record {
 
 pub guard : Shown table.guard
 guard = record {
-  promised = λ M 𝓤 𝓛 𝓜 𝓡. timing.guard.Met.met 𝓤 𝓛 𝓜 𝓡;
+  promised = λ M 𝓤 𝓛 𝓜 𝓡. timing.guard.Met.met 𝓤 𝓛 𝓜 (within 𝓤 𝓛.H 𝓜 𝓡 program) has.timing_guard;
   says = said table.guard _ (λ M 𝓤 𝓛 mem run κs a. refl);
   refusing = λ κs a r ws c. told_so c (λ u. refl) (calls.guarded a.0 a.1.0 a.1.1.0);
   one = λ κs a r s ws vs c d. (guards_apart r s (c ∙ sym d), refl);
@@ -211,7 +214,7 @@ guard = record {
 
 pub mvb_telegram_bits : Shown table.mvb_telegram_bits
 mvb_telegram_bits = record {
-  promised = λ M 𝓤 𝓛 𝓜 𝓡. mvb.timing_calls.mvb_telegram_bits.Met.met 𝓤 𝓛 𝓜 𝓡;
+  promised = λ M 𝓤 𝓛 𝓜 𝓡. mvb.timing_calls.mvb_telegram_bits.Met.met 𝓤 𝓛 𝓜 (within 𝓤 𝓛.H 𝓜 𝓡 program) has.mvb_timing_calls_mvb_telegram_bits;
   says = said table.mvb_telegram_bits _ (λ M 𝓤 𝓛 mem run κs a. refl);
   refusing = λ κs a r ws c. told_so c (λ u. refl) (calls.telegram a.0 a.1.0);
   one = λ κs a r s ws vs c d. (codes_apart r s (c ∙ sym d), refl);
@@ -219,7 +222,7 @@ mvb_telegram_bits = record {
 
 pub mvb_guard : Shown table.mvb_guard
 mvb_guard = record {
-  promised = λ M 𝓤 𝓛 𝓜 𝓡. mvb.timing_calls.mvb_guard.Met.met 𝓤 𝓛 𝓜 𝓡;
+  promised = λ M 𝓤 𝓛 𝓜 𝓡. mvb.timing_calls.mvb_guard.Met.met 𝓤 𝓛 𝓜 (within 𝓤 𝓛.H 𝓜 𝓡 program) has.mvb_timing_calls_mvb_guard;
   says = said table.mvb_guard _ (λ M 𝓤 𝓛 mem run κs a. refl);
   refusing = λ κs a r ws c. told_so c (λ u. refl) (calls.guarded a.0 a.1.0 a.1.1.0);
   one = λ κs a r s ws vs c d. (codes_apart r s (c ∙ sym d), refl);
@@ -227,7 +230,7 @@ mvb_guard = record {
 
 pub number_at : Shown table.number_at
 number_at = record {
-  promised = λ M 𝓤 𝓛 𝓜 𝓡. numbers.number_at.Met.met 𝓤 𝓛 𝓜 𝓡;
+  promised = λ M 𝓤 𝓛 𝓜 𝓡. numbers.number_at.Met.met 𝓤 𝓛 𝓜 (within 𝓤 𝓛.H 𝓜 𝓡 program) has.numbers_number_at;
   says = said table.number_at _ (λ M 𝓤 𝓛 mem run κs a. refl);
   refusing = λ κs a r ws c. told_so c (λ u. refl) (file.number a.0.now a.1.0);
   one = λ κs a r s ws vs c d. (numbers_apart r s (c ∙ sym d), refl);
@@ -235,7 +238,7 @@ number_at = record {
 
 pub reader_new : Shown table.reader_new
 reader_new = record {
-  promised = λ M 𝓤 𝓛 𝓜 𝓡. numbers.Reader.new.Met.met 𝓤 𝓛 𝓜 𝓡;
+  promised = λ M 𝓤 𝓛 𝓜 𝓡. numbers.Reader.new.Met.met 𝓤 𝓛 𝓜 (within 𝓤 𝓛.H 𝓜 𝓡 program) has.numbers_Reader_new;
   says = said table.reader_new _ (λ M 𝓤 𝓛 mem run κs a. refl);
   refusing = λ κs a r ws c. answers _;
   one = λ κs a r s ws vs c d. (reader_is (c.0 ∙ sym d.0) (c.1 ∙ sym d.1), refl);
@@ -243,7 +246,7 @@ reader_new = record {
 
 pub reader_next : Shown table.reader_next
 reader_next = record {
-  promised = λ M 𝓤 𝓛 𝓜 𝓡. numbers.Reader.next.Met.met 𝓤 𝓛 𝓜 𝓡;
+  promised = λ M 𝓤 𝓛 𝓜 𝓡. numbers.Reader.next.Met.met 𝓤 𝓛 𝓜 (within 𝓤 𝓛.H 𝓜 𝓡 program) has.numbers_Reader_next;
   says = said table.reader_next _ (λ M 𝓤 𝓛 mem run κs a. refl);
   refusing = λ κs a r ws c. told_so c (λ u. refl) (file.number a.0.src.now a.0.at);
   one = λ κs a r s ws vs c d. (numbers_apart r s (c ∙ sym d), refl);
@@ -251,7 +254,7 @@ reader_next = record {
 
 pub read_number : Shown table.read_number
 read_number = record {
-  promised = λ M 𝓤 𝓛 𝓜 𝓡. numbers.read_number.Met.met 𝓤 𝓛 𝓜 𝓡;
+  promised = λ M 𝓤 𝓛 𝓜 𝓡. numbers.read_number.Met.met 𝓤 𝓛 𝓜 (within 𝓤 𝓛.H 𝓜 𝓡 program) has.numbers_read_number;
   says = said table.read_number _ (λ M 𝓤 𝓛 mem run κs a. refl);
   refusing = λ κs a r ws c. told_so c (λ u. refl) (file.number a.0.now a.1.0);
   one = λ κs a r s ws vs c d. (numbers_apart r s (c ∙ sym d), refl);
@@ -259,7 +262,7 @@ read_number = record {
 
 pub read_numbers : Shown table.read_numbers
 read_numbers = record {
-  promised = λ M 𝓤 𝓛 𝓜 𝓡. numbers.read_numbers.Met.met 𝓤 𝓛 𝓜 𝓡;
+  promised = λ M 𝓤 𝓛 𝓜 𝓡. numbers.read_numbers.Met.met 𝓤 𝓛 𝓜 (within 𝓤 𝓛.H 𝓜 𝓡 program) has.numbers_read_numbers;
   says = said table.read_numbers _ (λ M 𝓤 𝓛 mem run κs a. refl);
   refusing = λ κs a r ws c. answers _;
   one = λ κs a r s ws vs c d. (run_is (c.0 ∙ sym d.0) (c.1 ∙ sym d.1), ap (λ (x : List ℕ). (tt, (tt, (x, tt)))) (c.2 ∙ sym d.2));
@@ -267,7 +270,7 @@ read_numbers = record {
 
 pub sum_numbers : Shown table.sum_numbers
 sum_numbers = record {
-  promised = λ M 𝓤 𝓛 𝓜 𝓡. numbers.sum_numbers.Met.met 𝓤 𝓛 𝓜 𝓡;
+  promised = λ M 𝓤 𝓛 𝓜 𝓡. numbers.sum_numbers.Met.met 𝓤 𝓛 𝓜 (within 𝓤 𝓛.H 𝓜 𝓡 program) has.numbers_sum_numbers;
   says = said table.sum_numbers _ (λ M 𝓤 𝓛 mem run κs a. refl);
   refusing = λ κs a r ws c. answers _;
   one = λ κs a r s ws vs c d. (sum_is (c.0 ∙ sym d.0) (c.1 ∙ sym d.1), refl);
@@ -275,7 +278,7 @@ sum_numbers = record {
 
 pub cycles_of : Shown table.cycles_of
 cycles_of = record {
-  promised = λ M 𝓤 𝓛 𝓜 𝓡. lists.cycles_of.Met.met 𝓤 𝓛 𝓜 𝓡;
+  promised = λ M 𝓤 𝓛 𝓜 𝓡. lists.cycles_of.Met.met 𝓤 𝓛 𝓜 (within 𝓤 𝓛.H 𝓜 𝓡 program) has.lists_cycles_of;
   says = said table.cycles_of _ (λ M 𝓤 𝓛 mem run κs a. refl);
   refusing = λ κs a r ws c. answers _;
   one = λ κs a r s ws vs c d. (c ∙ sym d, refl);
@@ -283,7 +286,7 @@ cycles_of = record {
 
 pub periods_of : Shown table.periods_of
 periods_of = record {
-  promised = λ M 𝓤 𝓛 𝓜 𝓡. lists.periods_of.Met.met 𝓤 𝓛 𝓜 𝓡;
+  promised = λ M 𝓤 𝓛 𝓜 𝓡. lists.periods_of.Met.met 𝓤 𝓛 𝓜 (within 𝓤 𝓛.H 𝓜 𝓡 program) has.lists_periods_of;
   says = said table.periods_of _ (λ M 𝓤 𝓛 mem run κs a. refl);
   refusing = λ κs a r ws c. answers _;
   one = λ κs a r s ws vs c d. (c ∙ sym d, refl);
@@ -291,7 +294,7 @@ periods_of = record {
 
 pub list_check : Shown table.list_check
 list_check = record {
-  promised = λ M 𝓤 𝓛 𝓜 𝓡. lists.list_check.Met.met 𝓤 𝓛 𝓜 𝓡;
+  promised = λ M 𝓤 𝓛 𝓜 𝓡. lists.list_check.Met.met 𝓤 𝓛 𝓜 (within 𝓤 𝓛.H 𝓜 𝓡 program) has.lists_list_check;
   says = said table.list_check _ (λ M 𝓤 𝓛 mem run κs a. refl);
   refusing = λ κs a r ws c. told_so c (λ u. refl) (file.list_check_lem a.0.now);
   one = λ κs a r s ws vs c d. (checks_apart r s (c ∙ sym d), refl);
@@ -299,7 +302,7 @@ list_check = record {
 
 pub basic_period : Shown table.basic_period
 basic_period = record {
-  promised = λ M 𝓤 𝓛 𝓜 𝓡. periods.basic_period.Met.met 𝓤 𝓛 𝓜 𝓡;
+  promised = λ M 𝓤 𝓛 𝓜 𝓡. periods.basic_period.Met.met 𝓤 𝓛 𝓜 (within 𝓤 𝓛.H 𝓜 𝓡 program) has.periods_basic_period;
   says = said table.basic_period _ (λ M 𝓤 𝓛 mem run κs a. refl);
   refusing = λ κs a r ws c. told_so c.0 (λ e. ap (λ (x : List ℕ). (a.0, (a.1.0, (at_last a.1.1.0 x, tt)))) (c.1 ∙ e)) (file.basic_period_lem a.0.now a.1.0 a.1.1.0.now);
   one = λ κs a r s ws vs c d. (sents_apart r s (c.0 ∙ sym d.0), ap (λ (x : List ℕ). (tt, (tt, (x, tt)))) (c.1 ∙ sym d.1));
@@ -307,7 +310,7 @@ basic_period = record {
 
 pub list_text : Shown table.list_text
 list_text = record {
-  promised = λ M 𝓤 𝓛 𝓜 𝓡. texts.list_text.Met.met 𝓤 𝓛 𝓜 𝓡;
+  promised = λ M 𝓤 𝓛 𝓜 𝓡. texts.list_text.Met.met 𝓤 𝓛 𝓜 (within 𝓤 𝓛.H 𝓜 𝓡 program) has.list_text_list_text;
   says = said table.list_text _ (λ M 𝓤 𝓛 mem run κs a. refl);
   refusing = λ κs a r ws c. told_so c.0 (λ e. ap (λ (x : List ℕ). (a.0, (at_last a.1.0 x, tt))) (c.1 ∙ e)) (file.list_text_lem a.0.now a.1.0.now);
   one = λ κs a r s ws vs c d. (texts_apart r s (c.0 ∙ sym d.0), ap (λ (x : List ℕ). (tt, (x, tt))) (c.1 ∙ sym d.1));
@@ -315,7 +318,7 @@ list_text = record {
 
 pub mvb_list_check : Shown table.mvb_list_check
 mvb_list_check = record {
-  promised = λ M 𝓤 𝓛 𝓜 𝓡. mvb.list_calls.mvb_list_check.Met.met 𝓤 𝓛 𝓜 𝓡;
+  promised = λ M 𝓤 𝓛 𝓜 𝓡. mvb.list_calls.mvb_list_check.Met.met 𝓤 𝓛 𝓜 (within 𝓤 𝓛.H 𝓜 𝓡 program) has.mvb_list_calls_mvb_list_check;
   says = record {
     Claim = _;
     free = λ M 𝓤 𝓛 mem run κs a. (tt, id⊢ 𝓤 (emp 𝓤));
@@ -331,7 +334,7 @@ mvb_list_check = record {
 
 pub mvb_basic_period : Shown table.mvb_basic_period
 mvb_basic_period = record {
-  promised = λ M 𝓤 𝓛 𝓜 𝓡. mvb.list_calls.mvb_basic_period.Met.met 𝓤 𝓛 𝓜 𝓡;
+  promised = λ M 𝓤 𝓛 𝓜 𝓡. mvb.list_calls.mvb_basic_period.Met.met 𝓤 𝓛 𝓜 (within 𝓤 𝓛.H 𝓜 𝓡 program) has.mvb_list_calls_mvb_basic_period;
   says = said table.mvb_basic_period _ (λ M 𝓤 𝓛 mem run κs a. refl);
   refusing = λ κs a r ws c. told_so c.0 (λ e. ap (λ (x : List ℕ). (a.0, (a.1.0, (at_last a.1.1.0 x, tt)))) (c.1 ∙ e)) (file.basic_period_lem a.0.now a.1.0 a.1.1.0.now);
   one = λ κs a r s ws vs c d. (codes_apart r s (c.0 ∙ sym d.0), ap (λ (x : List ℕ). (tt, (tt, (x, tt)))) (c.1 ∙ sym d.1));
@@ -339,7 +342,7 @@ mvb_basic_period = record {
 
 pub mvb_list_text : Shown table.mvb_list_text
 mvb_list_text = record {
-  promised = λ M 𝓤 𝓛 𝓜 𝓡. mvb.list_calls.mvb_list_text.Met.met 𝓤 𝓛 𝓜 𝓡;
+  promised = λ M 𝓤 𝓛 𝓜 𝓡. mvb.list_calls.mvb_list_text.Met.met 𝓤 𝓛 𝓜 (within 𝓤 𝓛.H 𝓜 𝓡 program) has.mvb_list_calls_mvb_list_text;
   says = said table.mvb_list_text _ (λ M 𝓤 𝓛 mem run κs a. refl);
   refusing = λ κs a r ws c. told_so c.0 (λ e. ap (λ (x : List ℕ). (a.0, (at_last a.1.0 x, tt))) (c.1 ∙ e)) (file.list_text_lem a.0.now a.1.0.now);
   one = λ κs a r s ws vs c d. (codes_apart r s (c.0 ∙ sym d.0), ap (λ (x : List ℕ). (tt, (x, tt))) (c.1 ∙ sym d.1));
@@ -347,7 +350,7 @@ mvb_list_text = record {
 
 pub look : Shown table.look
 look = record {
-  promised = λ M 𝓤 𝓛 𝓜 𝓡. port-table.look.Met.met 𝓤 𝓛 𝓜 𝓡;
+  promised = λ M 𝓤 𝓛 𝓜 𝓡. port-table.look.Met.met 𝓤 𝓛 𝓜 (within 𝓤 𝓛.H 𝓜 𝓡 program) has.port_table_look;
   says = said table.look _ (λ M 𝓤 𝓛 mem run κs a. refl);
   refusing = λ κs a r ws c. answers _;
   one = λ κs a r s ws vs c d. (c ∙ sym d, refl);
@@ -355,7 +358,7 @@ look = record {
 
 pub test_table : Shown table.test_table
 test_table = record {
-  promised = λ M 𝓤 𝓛 𝓜 𝓡. port-table.test_table.Met.met 𝓤 𝓛 𝓜 𝓡;
+  promised = λ M 𝓤 𝓛 𝓜 𝓡. port-table.test_table.Met.met 𝓤 𝓛 𝓜 (within 𝓤 𝓛.H 𝓜 𝓡 program) has.port_table_test_table;
   says = said table.test_table _ (λ M 𝓤 𝓛 mem run κs a. refl);
   refusing = λ κs a r ws c. answers _;
   one = λ κs a r s ws vs c d. (c ∙ sym d, refl);
@@ -363,7 +366,7 @@ test_table = record {
 
 pub mvb_arrive : Shown table.mvb_arrive
 mvb_arrive = record {
-  promised = λ M 𝓤 𝓛 𝓜 𝓡. ports.mvb_arrive.Met.met 𝓤 𝓛 𝓜 𝓡;
+  promised = λ M 𝓤 𝓛 𝓜 𝓡. ports.mvb_arrive.Met.met 𝓤 𝓛 𝓜 (within 𝓤 𝓛.H 𝓜 𝓡 program) has.ports_mvb_arrive;
   says = said table.mvb_arrive _ (λ M 𝓤 𝓛 mem run κs a. refl);
   refusing = λ κs a r ws c. told_so c.0 (λ e. ap₂ (λ (x y : List ℕ). (a.0, (at_last a.1.0 x, (at_last a.1.1.0 y, a.1.1.1)))) (c.1 ∙ e.0) (c.2 ∙ e.1)) (port.mvb_arrive_lem a.0.now a.1.0.now a.1.1.0.now a.1.1.1.0 a.1.1.1.1.0.now);
   one = λ κs a r s ws vs c d. (codes_apart r s (c.0 ∙ sym d.0), ap₂ (λ (x y : List ℕ). (tt, (x, (y, (tt, (tt, tt)))))) (c.1 ∙ sym d.1) (c.2 ∙ sym d.2));
@@ -371,7 +374,7 @@ mvb_arrive = record {
 
 pub mvb_answer : Shown table.mvb_answer
 mvb_answer = record {
-  promised = λ M 𝓤 𝓛 𝓜 𝓡. ports.mvb_answer.Met.met 𝓤 𝓛 𝓜 𝓡;
+  promised = λ M 𝓤 𝓛 𝓜 𝓡. ports.mvb_answer.Met.met 𝓤 𝓛 𝓜 (within 𝓤 𝓛.H 𝓜 𝓡 program) has.ports_mvb_answer;
   says = said table.mvb_answer _ (λ M 𝓤 𝓛 mem run κs a. refl);
   refusing = λ κs a r ws c. told_so c.0 (λ e. ap (λ (x : List ℕ). (a.0, (a.1.0, (a.1.1.0, (at_last a.1.1.1.0 x, tt))))) (c.1 ∙ e)) (port.mvb_answer_lem a.0.now a.1.0.now a.1.1.0 a.1.1.1.0.now);
   one = λ κs a r s ws vs c d. (codes_apart r s (c.0 ∙ sym d.0), ap (λ (x : List ℕ). (tt, (tt, (tt, (x, tt))))) (c.1 ∙ sym d.1));
@@ -379,7 +382,7 @@ mvb_answer = record {
 
 pub mvb_read : Shown table.mvb_read
 mvb_read = record {
-  promised = λ M 𝓤 𝓛 𝓜 𝓡. ports.mvb_read.Met.met 𝓤 𝓛 𝓜 𝓡;
+  promised = λ M 𝓤 𝓛 𝓜 𝓡. ports.mvb_read.Met.met 𝓤 𝓛 𝓜 (within 𝓤 𝓛.H 𝓜 𝓡 program) has.ports_mvb_read;
   says = said table.mvb_read _ (λ M 𝓤 𝓛 mem run κs a. refl);
   refusing = λ κs a r ws c. told_so c.0 (λ e. ap₂ (λ (x : List ℕ) (y : ℕ). (a.0, (a.1.0, (a.1.1.0, (a.1.1.1.0, (at_last a.1.1.1.1.0 x, (at_last a.1.1.1.1.1.0 y, tt))))))) (c.1 ∙ e.0) (c.2 ∙ e.1)) (port.mvb_read_lem a.0.now a.1.0.now a.1.1.0.now a.1.1.1.0 a.1.1.1.1.0.now a.1.1.1.1.1.0.now);
   one = λ κs a r s ws vs c d. (codes_apart r s (c.0 ∙ sym d.0), ap₂ (λ (x : List ℕ) (y : ℕ). (tt, (tt, (tt, (tt, (x, (y, tt))))))) (c.1 ∙ sym d.1) (c.2 ∙ sym d.2));
@@ -387,7 +390,7 @@ mvb_read = record {
 
 pub mvb_fill : Shown table.mvb_fill
 mvb_fill = record {
-  promised = λ M 𝓤 𝓛 𝓜 𝓡. ports.mvb_fill.Met.met 𝓤 𝓛 𝓜 𝓡;
+  promised = λ M 𝓤 𝓛 𝓜 𝓡. ports.mvb_fill.Met.met 𝓤 𝓛 𝓜 (within 𝓤 𝓛.H 𝓜 𝓡 program) has.ports_mvb_fill;
   says = said table.mvb_fill _ (λ M 𝓤 𝓛 mem run κs a. refl);
   refusing = λ κs a r ws c. told_so c.0 (λ e. ap (λ (x : List ℕ). (a.0, (at_last a.1.0 x, a.1.1))) (c.1 ∙ e)) (port.mvb_fill_lem a.0.now a.1.0.now a.1.1.0 a.1.1.1.0.now);
   one = λ κs a r s ws vs c d. (codes_apart r s (c.0 ∙ sym d.0), ap (λ (x : List ℕ). (tt, (x, (tt, (tt, tt))))) (c.1 ∙ sym d.1));
@@ -395,7 +398,7 @@ mvb_fill = record {
 
 pub mvb_tick : Shown table.mvb_tick
 mvb_tick = record {
-  promised = λ M 𝓤 𝓛 𝓜 𝓡. ports.mvb_tick.Met.met 𝓤 𝓛 𝓜 𝓡;
+  promised = λ M 𝓤 𝓛 𝓜 𝓡. ports.mvb_tick.Met.met 𝓤 𝓛 𝓜 (within 𝓤 𝓛.H 𝓜 𝓡 program) has.ports_mvb_tick;
   says = said table.mvb_tick _ (λ M 𝓤 𝓛 mem run κs a. refl);
   refusing = λ κs a r ws c. told_so c.0 (λ e. ap (λ (x : List ℕ). (a.0, (at_last a.1.0 x, tt))) (c.1 ∙ e)) (port.mvb_tick_lem a.0.now a.1.0.now);
   one = λ κs a r s ws vs c d. (codes_apart r s (c.0 ∙ sym d.0), ap (λ (x : List ℕ). (tt, (x, tt))) (c.1 ∙ sym d.1));
@@ -403,7 +406,7 @@ mvb_tick = record {
 
 pub bound : Shown table.bound
 bound = record {
-  promised = λ M 𝓤 𝓛 𝓜 𝓡. groups.bound.Met.met 𝓤 𝓛 𝓜 𝓡;
+  promised = λ M 𝓤 𝓛 𝓜 𝓡. groups.bound.Met.met 𝓤 𝓛 𝓜 (within 𝓤 𝓛.H 𝓜 𝓡 program) has.groups_bound;
   says = said table.bound _ (λ M 𝓤 𝓛 mem run κs a. refl);
   refusing = λ κs a r ws c. answers _;
   one = λ κs a r s ws vs c d. (c ∙ sym d, refl);
@@ -411,7 +414,7 @@ bound = record {
 
 pub is_group : Shown table.is_group
 is_group = record {
-  promised = λ M 𝓤 𝓛 𝓜 𝓡. groups.is_group.Met.met 𝓤 𝓛 𝓜 𝓡;
+  promised = λ M 𝓤 𝓛 𝓜 𝓡. groups.is_group.Met.met 𝓤 𝓛 𝓜 (within 𝓤 𝓛.H 𝓜 𝓡 program) has.groups_is_group;
   says = said table.is_group _ (λ M 𝓤 𝓛 mem run κs a. refl);
   refusing = λ κs a r ws c. answers _;
   one = λ κs a r s ws vs c d. (c ∙ sym d, refl);
@@ -419,7 +422,7 @@ is_group = record {
 
 pub in_group : Shown table.in_group
 in_group = record {
-  promised = λ M 𝓤 𝓛 𝓜 𝓡. groups.in_group.Met.met 𝓤 𝓛 𝓜 𝓡;
+  promised = λ M 𝓤 𝓛 𝓜 𝓡. groups.in_group.Met.met 𝓤 𝓛 𝓜 (within 𝓤 𝓛.H 𝓜 𝓡 program) has.groups_in_group;
   says = said table.in_group _ (λ M 𝓤 𝓛 mem run κs a. refl);
   refusing = λ κs a r ws c. answers _;
   one = λ κs a r s ws vs c d. (c ∙ sym d, refl);
@@ -427,7 +430,7 @@ in_group = record {
 
 pub round_start : Shown table.round_start
 round_start = record {
-  promised = λ M 𝓤 𝓛 𝓜 𝓡. rounds.Round.start.Met.met 𝓤 𝓛 𝓜 𝓡;
+  promised = λ M 𝓤 𝓛 𝓜 𝓡. rounds.Round.start.Met.met 𝓤 𝓛 𝓜 (within 𝓤 𝓛.H 𝓜 𝓡 program) has.rounds_Round_start;
   says = said table.round_start _ (λ M 𝓤 𝓛 mem run κs a. refl);
   refusing = λ κs a r ws c. told_so c (λ u. refl) (calls.round_start a.0);
   one = λ κs a r s ws vs c d. (steps_apart r s (c ∙ sym d), refl);
@@ -435,7 +438,7 @@ round_start = record {
 
 pub round_answer : Shown table.round_answer
 round_answer = record {
-  promised = λ M 𝓤 𝓛 𝓜 𝓡. rounds.Round.answer.Met.met 𝓤 𝓛 𝓜 𝓡;
+  promised = λ M 𝓤 𝓛 𝓜 𝓡. rounds.Round.answer.Met.met 𝓤 𝓛 𝓜 (within 𝓤 𝓛.H 𝓜 𝓡 program) has.rounds_Round_answer;
   says = said table.round_answer _ (λ M 𝓤 𝓛 mem run κs a. refl);
   refusing = λ κs a r ws c. told_so c (λ u. refl) (calls.round_answer_lem a.0 a.1.0);
   one = λ κs a r s ws vs c d. (steps_apart r s (c ∙ sym d), refl);
@@ -443,7 +446,7 @@ round_answer = record {
 
 pub search_set : Shown table.search_set
 search_set = record {
-  promised = λ M 𝓤 𝓛 𝓜 𝓡. search-of.search_set.Met.met 𝓤 𝓛 𝓜 𝓡;
+  promised = λ M 𝓤 𝓛 𝓜 𝓡. search-of.search_set.Met.met 𝓤 𝓛 𝓜 (within 𝓤 𝓛.H 𝓜 𝓡 program) has.search_search_set;
   says = record {
     Claim = _;
     free = λ M 𝓤 𝓛 mem run κs a. (tt, id⊢ 𝓤 (emp 𝓤));
@@ -455,7 +458,7 @@ search_set = record {
 
 pub mvb_round_start : Shown table.mvb_round_start
 mvb_round_start = record {
-  promised = λ M 𝓤 𝓛 𝓜 𝓡. mvb.round_calls.mvb_round_start.Met.met 𝓤 𝓛 𝓜 𝓡;
+  promised = λ M 𝓤 𝓛 𝓜 𝓡. mvb.round_calls.mvb_round_start.Met.met 𝓤 𝓛 𝓜 (within 𝓤 𝓛.H 𝓜 𝓡 program) has.mvb_round_calls_mvb_round_start;
   says = said table.mvb_round_start _ (λ M 𝓤 𝓛 mem run κs a. refl);
   refusing = λ κs a r ws c. told_so c.0 (λ e. ap (λ (x : List ℕ). (a.0, (at_last a.1.0 x, tt))) (c.1 ∙ e)) (calls.mvb_round_start_lem a.0 a.1.0.now);
   one = λ κs a r s ws vs c d. (codes_apart r s (c.0 ∙ sym d.0), ap (λ (x : List ℕ). (tt, (x, tt))) (c.1 ∙ sym d.1));
@@ -463,7 +466,7 @@ mvb_round_start = record {
 
 pub mvb_round_answer : Shown table.mvb_round_answer
 mvb_round_answer = record {
-  promised = λ M 𝓤 𝓛 𝓜 𝓡. mvb.round_calls.mvb_round_answer.Met.met 𝓤 𝓛 𝓜 𝓡;
+  promised = λ M 𝓤 𝓛 𝓜 𝓡. mvb.round_calls.mvb_round_answer.Met.met 𝓤 𝓛 𝓜 (within 𝓤 𝓛.H 𝓜 𝓡 program) has.mvb_round_calls_mvb_round_answer;
   says = said table.mvb_round_answer _ (λ M 𝓤 𝓛 mem run κs a. refl);
   refusing = λ κs a r ws c. told_so c.0 (λ e. ap (λ (x : List ℕ). (at_last a.0 x, a.1)) (c.1 ∙ e)) (calls.mvb_round_answer_lem a.0.now a.1.0.now);
   one = λ κs a r s ws vs c d. (codes_apart r s (c.0 ∙ sym d.0), ap (λ (x : List ℕ). (x, (tt, tt))) (c.1 ∙ sym d.1));
@@ -471,7 +474,7 @@ mvb_round_answer = record {
 
 pub mvb_search : Shown table.mvb_search
 mvb_search = record {
-  promised = λ M 𝓤 𝓛 𝓜 𝓡. mvb.round_calls.mvb_search.Met.met 𝓤 𝓛 𝓜 𝓡;
+  promised = λ M 𝓤 𝓛 𝓜 𝓡. mvb.round_calls.mvb_search.Met.met 𝓤 𝓛 𝓜 (within 𝓤 𝓛.H 𝓜 𝓡 program) has.mvb_round_calls_mvb_search;
   says = record {
     Claim = _;
     free = λ M 𝓤 𝓛 mem run κs a. (tt, id⊢ 𝓤 (emp 𝓤));

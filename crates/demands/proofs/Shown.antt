@@ -6,12 +6,12 @@ use mathlib.Core.Logic.{∥∥₁_map}
 use seplogic.Ra.Ura.{Ura}
 use base.Logic.{SProp, emp, ent, id⊢, sep, via, mono_l, mono_r, fst∗, snd∗, emp∗, comm∗}
 use prog.Memory.{Memory}
-use prog.Routine.{Routine, anyName}
+use prog.Routine.{Routine, any_callee}
 use types.Logic.{Logic, sem}
 use contract.Lifetimes.{Lfts}
 use contract.Monad.{fact, fact_i, fact_mono, fact_use, Fun}
 use contract.Adequate.{sat_weaken}
-use contract.Running.{alone}
+use contract.Running.{alone, strict}
 use denote.Ask.Run.{routine_mono}
 use denote.Triple.Adequate.{adequate}
 use denote.Triple.Entry.{Args, Res, on_entry}
@@ -78,9 +78,9 @@ module _ (f : EntryPoint) where
 
   pub demanded : Shown → Demanded f
   demanded h M 𝓤 𝓛 𝓜 𝓡 =
-      let free = h.says.free M 𝓤 𝓛 𝓜.mem 𝓡.run in
-      let claims = h.says.claims M 𝓤 𝓛 𝓜.mem 𝓡.run in
-      weaken_under 𝓛 f.ended (f.promise 𝓛 𝓜.mem 𝓡.run) (asked 𝓤 f)
+      let free = h.says.free M 𝓤 𝓛 𝓜.mem 𝓡.returns in
+      let claims = h.says.claims M 𝓤 𝓛 𝓜.mem 𝓡.returns in
+      weaken_under 𝓛 f.ended (f.promise 𝓛 𝓜.mem 𝓡.returns) (asked 𝓤 f)
       (λ κs a g. (free κs a).0) (λ κs a g. Unit {0}) (λ κs a g. fact_i 𝓤 (Unit {0}) (emp 𝓤) tt) (λ κs a g _. (free κs a).1)
       (λ κs a g _ r ws.
       mono_r 𝓤 (sem 𝓛 (lasts f.ended κs a ws))
@@ -94,7 +94,7 @@ module _ (f : EntryPoint) where
       let S = f.ended.signature in
       let E : SProp 𝓤 = on_entry 𝓛 S x.0 x.1 x.3 x.4 in
       ∥∥₁_map
-      (adequate 𝓤 𝓛.H 𝓜 (alone 𝓤 𝓛.H 𝓜 𝓡 f.routine) anyName (triple_of 𝓛 S (closing 𝓛 f.ended (asked 𝓤 f))) (d M 𝓤 𝓛 𝓜 𝓡) (x, tt) before else
+      (adequate 𝓤 𝓛.H 𝓜 (alone 𝓤 𝓛.H 𝓜 (strict 𝓤 𝓛.H 𝓜 𝓡) f.routine) ((λ s a. a), tt) any_callee (triple_of 𝓛 S (closing 𝓛 f.ended (asked 𝓤 f))) (d M 𝓤 𝓛 𝓜 (strict 𝓤 𝓛.H 𝓜 𝓡)) (x, tt) before else
       (sat_weaken 𝓤 𝓛.H 𝓜 before (mono_l 𝓤 else (via 𝓤 (sep 𝓤 (emp 𝓤) E) (emp∗ 𝓤 E) (comm∗ 𝓤 (emp 𝓤) E))) s))
       (λ r. (r.0, r.1, r.2, r.3))
 

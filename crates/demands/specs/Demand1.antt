@@ -13,6 +13,7 @@ use types.Logic.{Logic}
 use contract.Adequate.{Satisfies}
 use contract.Monad.{fact}
 use contract.Running.{Running}
+use prog.Routine.{step}
 use denote.Triple.Bound.{Bound, passed}
 use denote.Triple.Entry.{on_entry}
 use denote.Triple.Spec.{Meets}
@@ -37,7 +38,7 @@ Does f clauses =
 
 -- its own promise, from which "every result and every lent byte afterwards follows"
 abbrev pub Promised : EntryPoint → Type 2
-Promised f = Does f (λ M 𝓤 𝓛 𝓜 𝓡. f.promise 𝓛 𝓜.mem 𝓡.run)
+Promised f = Does f (λ M 𝓤 𝓛 𝓜 𝓡. f.promise 𝓛 𝓜.mem 𝓡.returns)
 
 -- what demand 1 asks
 abbrev pub Demanded : EntryPoint → Type 2
@@ -47,10 +48,10 @@ Demanded f = Does f (λ M 𝓤 𝓛 𝓜 𝓡. asked 𝓤 f)
 -- function comes to a return, after some number of steps, with some value and some memory
 abbrev pub Returns : EntryPoint → Type 2
 Returns f =
-    (M : Type 1) (𝓤 : Ura M) (𝓛 : Logic 𝓤) (𝓜 : Model 𝓤 𝓛.H) (𝓡 : Running 𝓤 𝓛.H 𝓜)
+    (M : Type 1) (𝓤 : Ura M) (𝓛 : Logic 𝓤) (𝓜 : Model 𝓤 𝓛.H) (𝓡 : Running 𝓤 𝓛.H 𝓜) →
     (x : Bound 𝓛 f.ended.signature) (before : Memory) (else : SProp 𝓤) →
     Satisfies 𝓤 𝓛.H 𝓜 before (sep 𝓤 (on_entry 𝓛 f.ended.signature x.0 x.1 x.3 x.4) else) →
-    ∥ ((steps : ℕ) × (value : Val) × (after : Memory) × (f.routine.step steps (passed 𝓛 f.ended.signature x) before ≡ done (value, after))) ∥₁
+    ∥ ((steps : ℕ) × (value : Val) × (after : Memory) × (step f.routine steps (passed 𝓛 f.ended.signature x) before ≡ done (value, after))) ∥₁
 
 -- each row of a table
 abbrev pub Each : (EntryPoint → Type 2) → List EntryPoint → Type 2

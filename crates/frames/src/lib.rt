@@ -1,4 +1,6 @@
 // Master and Slave Frames as bytes, and what the line answers (document 01, "Frames").
+#![tactic(auto)]
+
 mod blocks;
 mod shapes;
 
@@ -34,6 +36,7 @@ pub enum LineAnswer {
 
 // Reads a Master Frame: a word and its check sequence. Most of those on a bus ask for Process Data, F_codes 0 to 4: these
 // have the shortest way.
+#[tactic(auto, unfolding(crate::specs::Master::master_read))]
 pub fn master_read(frame: &[u8]) -> MasterRead
     ensures { told_word result ≡ master_read frame.now }
 {
@@ -55,6 +58,7 @@ pub fn master_read(frame: &[u8]) -> MasterRead
 }
 
 // Writes the Master Frame of a word at the start of `out`.
+#[tactic(auto, unfolding(crate::specs::Master::master_write, crate::specs::Master::master_write_out, crate::specs::Master::master_frame))]
 pub fn master_write(word: u16, out: &mut [u8]) -> Wrote
     ensures { (told_wrote result ≡ master_write word (length out.old)) × (out.new ≡ master_write_out word out.old) }
 {
@@ -69,6 +73,7 @@ pub fn master_write(word: u16, out: &mut [u8]) -> Wrote
 }
 
 // Reads a Slave Frame of the expected F_code: its data goes to the start of `out`.
+#[tactic(auto, unfolding(crate::specs::Slave::slave_read, crate::specs::Slave::slave_read_out, crate::specs::Slave::slave_data))]
 pub fn slave_read(f_code: u8, frame: &[u8], out: &mut [u8]) -> Wrote
     ensures { (told_wrote result ≡ slave_read f_code frame.now (length out.old)) × (out.new ≡ slave_read_out f_code frame.now out.old) }
 {
@@ -90,6 +95,7 @@ pub fn slave_read(f_code: u8, frame: &[u8], out: &mut [u8]) -> Wrote
 }
 
 // Writes the Slave Frame of an F_code and its data at the start of `out`.
+#[tactic(auto, unfolding(crate::specs::Slave::slave_write, crate::specs::Slave::slave_write_out, crate::specs::Slave::slave_frame))]
 pub fn slave_write(f_code: u8, data: &[u8], out: &mut [u8]) -> Wrote
     ensures { (told_wrote result ≡ slave_write f_code «data».now (length out.old)) × (out.new ≡ slave_write_out f_code «data».now out.old) }
 {
@@ -108,6 +114,7 @@ pub fn slave_write(f_code: u8, data: &[u8], out: &mut [u8]) -> Wrote
 }
 
 // What the bytes that came after a Master Frame answer. A word with a reserved F_code is a reply too.
+#[tactic(auto, unfolding(crate::specs::Line::answer_of))]
 pub fn line_answer(bytes: &[u8]) -> LineAnswer
     ensures { told_line result ≡ line_answer bytes.now }
 {

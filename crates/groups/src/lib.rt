@@ -1,4 +1,6 @@
 // Groups {M, C} of devices: their bound, what is a group, and which devices it has.
+#![tactic(auto)]
+
 ghost use Rattle.std.specs.Prelude.{◌≡◌, ◌-◌, ◌^◌};
 ghost use Rattle.groups.specs.Groups.{is_group, in_group};
 

@@ -1,1 +1,2 @@
 // What the acceptance of a list means: theorems alone.
+#![tactic(auto)]

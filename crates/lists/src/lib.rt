@@ -1,4 +1,6 @@
 // The periodic list: which files are accepted.
+#![tactic(auto)]
+
 mod cycles;
 mod head;
 mod load;
@@ -17,7 +19,7 @@ use crate::head::read_header;
 use crate::load::{overfull, weights};
 use refusals::Refusal;
 
-#[derive(Drop)]
+#[derive(Clone, Copy)]
 pub struct Header {
     pub ms: u16,
     pub gap: u16,

@@ -3,12 +3,10 @@
 use mathlib.Core.Path.{◌≡◌, refl, sym, ap, ap₂, subst, ◌∙◌}
 use mathlib.Core.Bool.{Bool, true, false, cond}
 use mathlib.Core.List.{List, [], ◌∷◌, ◌++◌}
-use mathlib.Core.Logic.{⊎_elim}
+use mathlib.Core.Logic.{◌⊎◌, ⊎_elim}
 use Prim.Native.Nat.{ℕ, zero, suc, ◌/◌, ◌≤◌, ◌<◌}
 use native.Mathlib.Omega.{arith}
 use borrow.Author.Tests.{lt-ltb, le-ltb, eq-eqb, ne_eqb}
-use types.Run.{OneOf}
-use denote.Enum.Declared.{tag_of}
 use lib.Dec.{ltb}
 use lib.ListN.{length, get_or, drop, set}
 use Rattle.refusals.specs.declared.Refusal.{Refusal}
@@ -29,7 +27,6 @@ use Rattle.rounds.specs.declared.Step.{Step}
 use Rattle.rounds.specs.declared.Step.TheVariants.{Next, End, Refused}
 use Rattle.rounds.specs.Rounds.{Verdict, nobody, named, unclear, judge, counts_of, none, one_request, one_unresolved, round, stand, split, heard, impossible, ended, reading, step_by, step_of, start_of}
 use Rattle.rounds.specs.Told.{phase_number, round_values, told}
-use Rattle.rounds.specs.contracts.Phase.{the_type as phase-type}
 use Rattle.rounds.proofs.Apart.{steps_apart}
 use Rattle.mvb.specs.Rounds.{phase_of, round_in, stored, told_step, run_after, start_answer, start_run, round_answer, round_run}
 use Rattle.mvb.specs.Inside.{AsHeard}
@@ -204,24 +201,16 @@ module _ (run bytes : List ℕ) (g : get_or run 0 0 ≤ 1) {step : Step} (i : st
   unfolding round_in
   left s e = subst (Leaves (round_in run)) (sym i ∙ e) (step_leaves (round_in run) (answer_of bytes) (waiting (get_or run 0 0) g))
 
-  pub read_left : (n : Round) (w : ℕ) → step ≡ Next n w → tag_of phase-type n.phase ≡ 1
+  pub read_left : (n : Round) (w : ℕ) → step ≡ Next n w → n.phase ≡ Read
       → (n.phase ≡ Read) × (n.m ≡ get_or run 1 0) × (n.c ≡ get_or run 2 0) × (n.unresolved ≡ get_or run 5 0)
   unfolding round_in
-  read_left n w e t = go n.phase t (left (Next n w) e)
-    where
-      go : (p : Phase) → tag_of phase-type p ≡ 1 → Keeps (round_in run) p n → (p ≡ Read) × (n.m ≡ get_or run 1 0) × (n.c ≡ get_or run 2 0) × (n.unresolved ≡ get_or run 5 0)
-      go Asked t k = absurd (let z : ◌≡◌ {A = ℕ} 0 1 = t in omega arith)
-      go Read t k = (refl, k.0, k.1, k.2)
-      go Ended t k = absurd k
+  read_left n w e t = let k = subst (λ (p : Phase). Keeps (round_in run) p n) t (left (Next n w) e) in (t, k.0, k.1, k.2)
 
-  pub asked_left : (n : Round) (w : ℕ) → step ≡ Next n w → OneOf (0 ∷ 2 ∷ []) (tag_of phase-type n.phase) → (n.phase ≡ Asked) × (n.reads ≡ get_or run 4 0)
+  pub asked_left : (n : Round) (w : ℕ) → step ≡ Next n w → (n.phase ≡ Asked) ⊎ (n.phase ≡ Ended) → (n.phase ≡ Asked) × (n.reads ≡ get_or run 4 0)
   unfolding round_in
-  asked_left n w e t = go n.phase t (left (Next n w) e)
-    where
-      go : (p : Phase) → OneOf (0 ∷ 2 ∷ []) (tag_of phase-type p) → Keeps (round_in run) p n → (p ≡ Asked) × (n.reads ≡ get_or run 4 0)
-      go Asked t k = (refl, k)
-      go Read t k = absurd (⊎_elim (λ (z : ◌≡◌ {A = ℕ} 1 0). omega arith) (λ (z : ◌≡◌ {A = ℕ} 1 2). omega arith) t)
-      go Ended t k = absurd k
+  asked_left n w e t =
+      let kept : (p : Phase) → n.phase ≡ p → Keeps (round_in run) p n = λ p z. subst (λ (q : Phase). Keeps (round_in run) q n) z (left (Next n w) e) in
+      ⊎_elim (λ z. (z, kept Asked z)) (λ z. absurd (kept Ended z)) t
 
   pub ended_left : (n : Round) (k : Counts) → step ≡ End n k → (n.phase ≡ Ended) × (n.m ≡ 12) × (n.c ≡ 0) × (n.reads ≡ get_or run 4 0)
   unfolding round_in

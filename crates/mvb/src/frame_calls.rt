@@ -33,8 +33,7 @@ fn word_of(high: u8, low: u8) -> u16
 }
 
 // A block of two bytes is a word: its check sequence is computed here, without a call.
-#[unsafe(no_mangle)]
-pub extern "C" fn mvb_check_of(block: &[u8]) -> u32
+pub fn mvb_check_of(block: &[u8]) -> u32
     ensures { result ≡ check_of block.now }
 {
     if block.len() == 2 {
@@ -44,8 +43,7 @@ pub extern "C" fn mvb_check_of(block: &[u8]) -> u32
     checks::check_of(block) as u32
 }
 
-#[unsafe(no_mangle)]
-pub extern "C" fn mvb_master_read(frame: &[u8]) -> u32
+pub fn mvb_master_read(frame: &[u8]) -> u32
     ensures { told_code result ≡ master_read frame.now }
 {
     match frames::master_read(frame) {
@@ -54,22 +52,19 @@ pub extern "C" fn mvb_master_read(frame: &[u8]) -> u32
     }
 }
 
-#[unsafe(no_mangle)]
-pub extern "C" fn mvb_master_write(word: u16, out: &mut [u8]) -> u32
+pub fn mvb_master_write(word: u16, out: &mut [u8]) -> u32
     ensures { (told_code result ≡ master_write word (length out.old)) × (out.new ≡ master_write_out word out.old) }
 {
     code_of(frames::master_write(word, out))
 }
 
-#[unsafe(no_mangle)]
-pub extern "C" fn mvb_slave_read(f_code: u8, frame: &[u8], out: &mut [u8]) -> u32
+pub fn mvb_slave_read(f_code: u8, frame: &[u8], out: &mut [u8]) -> u32
     ensures { (told_code result ≡ slave_read f_code frame.now (length out.old)) × (out.new ≡ slave_read_out f_code frame.now out.old) }
 {
     code_of(frames::slave_read(f_code, frame, out))
 }
 
-#[unsafe(no_mangle)]
-pub extern "C" fn mvb_slave_write(f_code: u8, data: &[u8], out: &mut [u8]) -> u32
+pub fn mvb_slave_write(f_code: u8, data: &[u8], out: &mut [u8]) -> u32
     ensures { (told_code result ≡ slave_write f_code «data».now (length out.old)) × (out.new ≡ slave_write_out f_code «data».now out.old) }
 {
     code_of(frames::slave_write(f_code, data, out))

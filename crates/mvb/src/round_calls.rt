@@ -82,8 +82,7 @@ fn store_ended(round: Round, run: &mut [u16])
 }
 
 // Starts a round: 6 for the parameter bits, then 4 for a run too short.
-#[unsafe(no_mangle)]
-pub extern "C" fn mvb_round_start(params: u16, run: &mut [u16]) -> u32
+pub fn mvb_round_start(params: u16, run: &mut [u16]) -> u32
     ensures { (told_code result ≡ start_answer params (length run.old)) × (run.new ≡ start_run params run.old) }
 {
     let step = Round::start(params);
@@ -133,8 +132,7 @@ fn has_ended(phase: u16) -> bool
 }
 
 // Takes the bytes that came for the word handed out last: 4 for a run too short, before all else.
-#[unsafe(no_mangle)]
-pub extern "C" fn mvb_round_answer(run: &mut [u16], bytes: &[u8]) -> u32
+pub fn mvb_round_answer(run: &mut [u16], bytes: &[u8]) -> u32
     ensures { (told_code result ≡ round_answer run.old bytes.now) × (run.new ≡ round_run run.old bytes.now) }
 {
     if run.len() < 6 {
@@ -170,8 +168,7 @@ pub extern "C" fn mvb_round_answer(run: &mut [u16], bytes: &[u8]) -> u32
 }
 
 // Searches a lent set of 512 bytes: the answer is the reads, the requests go to a number that is lent.
-#[unsafe(no_mangle)]
-pub extern "C" fn mvb_search(set: &[u8], out: &mut [u16], requests: &mut u16) -> u32
+pub fn mvb_search(set: &[u8], out: &mut [u16], requests: &mut u16) -> u32
     ensures answer { told_code result ≡ search_answer set.now (length out.old) }
     ensures order { out.new ≡ written set.now out.old }
     ensures number { requests.new ≡ search_requests set.now (length out.old) requests.old }

@@ -1,4 +1,6 @@
 // The numbers of the list file, in groups of seven bits, and the reader that yields them.
+#![tactic(auto)]
+
 ghost use Rattle.std.specs.Prelude.{◌≡◌, ◌++◌, ◌+◌, ◌-◌, ◌*◌, ◌≤◌, ◌<◌, length, drop};
 ghost use Rattle.numbers.specs.Number.{number_at, run, sum};
 ghost use Rattle.numbers.specs.Answers.{told_number};
@@ -33,6 +35,7 @@ fn three(a: u8, b: u8, c: u8) -> u16
 }
 
 // The number that starts at a place.
+#[tactic(auto, using(crate::proofs::Uses::at_place))]
 pub fn number_at(s: &[u8], at: usize) -> Number
     ensures { told_number result ≡ number_at s.now at }
 {
@@ -104,6 +107,7 @@ pub struct Run {
 }
 
 // Numbers one after another, as far as they go and out has places for them.
+#[tactic(auto, using(crate::proofs::RunLaws::stop, crate::proofs::Answers::none))]
 pub fn read_numbers(s: &[u8], at: usize, out: &mut [u16]) -> Run
     ensures { (result.count ≡ length (run (length out.old) (drop at s.now)).values) × (result.next ≡ at + (run (length out.old) (drop at s.now)).used)
         × (out.new ≡ (run (length out.old) (drop at s.now)).values ++ drop (length (run (length out.old) (drop at s.now)).values) out.old) }
@@ -132,6 +136,7 @@ pub struct Summed {
 }
 
 // At most k numbers one after another, as far as they go, added up.
+#[tactic(auto, using(crate::proofs::RunLaws::adding_stop, crate::proofs::Answers::none))]
 pub fn sum_numbers(s: &[u8], at: usize, k: u16) -> Summed
     ensures { (result.total ≡ sum (run k (drop at s.now)).values) × (result.next ≡ at + (run k (drop at s.now)).used) }
 {

@@ -1,4 +1,6 @@
 // What a Basic Period sends.
+#![tactic(auto)]
+
 mod skips;
 
 ghost use Rattle.std.specs.Prelude.{◌≡◌, true, false, [], ◌∷◌, ◌++◌, ◌+◌, ◌≤◌, ◌<◌, length, drop};

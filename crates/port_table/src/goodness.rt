@@ -8,7 +8,7 @@ use crate::Tested;
 
 // What is kept of a part's records, of which there are at most 64: whether they and all behind them are in order, what
 // the next address must be below, and their sinks.
-#[derive(Drop)]
+#[derive(Clone, Copy)]
 pub(crate) struct Part {
     good: bool,
     limit: u16,
@@ -16,7 +16,7 @@ pub(crate) struct Part {
 }
 
 // What is kept of whole parts: as of one, with the sinks of the first four from there on.
-#[derive(Drop)]
+#[derive(Clone, Copy)]
 pub(crate) struct Taken {
     good: bool,
     limit: u16,

@@ -8,7 +8,7 @@ use crate::{Place, Seen};
 
 // What the walk keeps: whether the addresses so far rise, one more than the last, the bytes of the records, and whether
 // one has the address, with its place, offset, size, F_code and direction.
-#[derive(Drop)]
+#[derive(Clone, Copy)]
 pub(crate) struct Walk {
     good: bool,
     found: bool,
@@ -50,6 +50,7 @@ const HEAVY: usize = 65536;
 
 // The data of a Process Data port, as the table of rows has it: an instruction less for each record than by its row.
 // Another F_code is heavy, so that the sum tells of it and no record is tested for it.
+#[tactic(auto, unfolding(rows::specs::Rows::data_bytes, rows::specs::Rows::data_bits))]
 fn data_bytes(f_code: u8) -> usize
     ensures { (f_code < 5 → (result ≡ data_bytes f_code) × (result ≤ 32)) × (5 ≤ f_code → result ≡ heavy) }
 {
@@ -150,6 +151,7 @@ fn place_in(walk: Walk, count: usize) -> Place
 }
 
 // What the walk of so many records shows. Addresses that rise are all below 4,096 where the last is.
+#[tactic(auto, using(crate::proofs::Uses::showing))]
 pub(crate) fn shown(walk: Walk, count: usize) -> Seen
     ensures { Shows walk count result }
 {

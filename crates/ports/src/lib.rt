@@ -1,5 +1,7 @@
 // Ports and ages (document 01, "Ports and ages"): the five calls, as C sees them too.
 // An answer below 65,536 is the value, 65,536 + n is refusal n.
+#![tactic(auto)]
+
 mod rules;
 mod ticks;
 
@@ -14,8 +16,7 @@ ghost use Rattle.ports.specs.Ticking.{tick, tick_ages};
 use port_table::Port;
 
 // A frame arrives for the sink that its word names: data replaced, age 0.
-#[unsafe(no_mangle)]
-pub extern "C" fn mvb_arrive(
+pub fn mvb_arrive(
     table: &[Port],
     store: &mut [u8],
     ages: &mut [u16],
@@ -29,8 +30,7 @@ pub extern "C" fn mvb_arrive(
 }
 
 // The source that a word names answers: its Slave Frame goes to the start of `out`.
-#[unsafe(no_mangle)]
-pub extern "C" fn mvb_answer(table: &[Port], store: &[u8], word: u16, out: &mut [u8]) -> u32
+pub fn mvb_answer(table: &[Port], store: &[u8], word: u16, out: &mut [u8]) -> u32
     ensures { (told_code result ≡ answer table.now store.now word out.old) × (out.new ≡ answer_out table.now store.now word out.old) }
 {
     let seen = port_table::look(table, word % 4096);
@@ -38,8 +38,7 @@ pub extern "C" fn mvb_answer(table: &[Port], store: &[u8], word: u16, out: &mut 
 }
 
 // The application reads a sink: its data goes to the start of `out`, its age to `age`.
-#[unsafe(no_mangle)]
-pub extern "C" fn mvb_read(
+pub fn mvb_read(
     table: &[Port],
     store: &[u8],
     ages: &[u16],
@@ -54,8 +53,7 @@ pub extern "C" fn mvb_read(
 }
 
 // The application fills a source.
-#[unsafe(no_mangle)]
-pub extern "C" fn mvb_fill(table: &[Port], store: &mut [u8], address: u16, data: &[u8]) -> u32
+pub fn mvb_fill(table: &[Port], store: &mut [u8], address: u16, data: &[u8]) -> u32
     ensures { (told_code result ≡ fill table.now store.old address «data».now) × (store.new ≡ fill_store table.now store.old address «data».now) }
 {
     let seen = port_table::look(table, address);
@@ -63,8 +61,7 @@ pub extern "C" fn mvb_fill(table: &[Port], store: &mut [u8], address: u16, data:
 }
 
 // A tick: every sink is one older.
-#[unsafe(no_mangle)]
-pub extern "C" fn mvb_tick(table: &[Port], ages: &mut [u16]) -> u32
+pub fn mvb_tick(table: &[Port], ages: &mut [u16]) -> u32
     ensures { (told_code result ≡ tick table.now ages.old) × (ages.new ≡ tick_ages table.now ages.old) }
 {
     let tested = port_table::test_table(table);

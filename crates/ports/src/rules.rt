@@ -1,5 +1,5 @@
 // The rules of the calls that name a port, over what the walk of the table showed.
-ghost use Rattle.std.specs.Prelude.{◌≡◌, ◌+◌, ◌<◌, ◌≤◌, length};
+ghost use Rattle.std.specs.Prelude.{◌≡◌, ◌++◌, ◌+◌, ◌<◌, ◌≤◌, length, drop};
 ghost use Rattle.frames.specs.Words.{f_code_of, address};
 ghost use Rattle.port_table.specs.Inside.{Walked};
 ghost use Rattle.ports.specs.Lent.{replaced};
@@ -27,7 +27,19 @@ fn put(data: &[u8], store: &mut [u8], offset: usize)
     requires { offset + length «data».now ≤ length store.old }
     ensures { store.new ≡ replaced offset «data».now store.old }
 {
-    bytes::copy(data, &mut store[offset..]);
+    copy_front(data, &mut store[offset..]);
+}
+
+// By a loop of its own: so all that the library runs is in its own crates.
+fn copy_front(from: &[u8], to: &mut [u8])
+    requires { length from.now ≤ length to.old }
+    ensures { to.new ≡ from.now ++ drop (length from.now) to.old }
+{
+    let mut i: usize = 0;
+    while i < from.len() {
+        to[i] = from[i];
+        i += 1;
+    }
 }
 
 // 13; 4 for store, then ages; 14; 15; 16; 17; 1 and 2 of the frame. The store has room from the port on.
@@ -135,7 +147,7 @@ pub(crate) fn read(seen: Seen, store: &[u8], ages: &[u16], out: &mut [u8], age: 
     }
     let offset = place.offset;
     let end = offset + size;
-    bytes::copy(&store[offset..end], out);
+    copy_front(&store[offset..end], out);
     *age = ages[at];
     value(size)
 }

@@ -1,4 +1,6 @@
 // The event round: which devices have an event, asked for group by group.
+#![tactic(auto)]
+
 mod words;
 
 ghost use Rattle.std.specs.Prelude.{◌≡◌, true, ◌+◌, ◌-◌, ◌^◌, ◌≤◌};
@@ -11,14 +13,14 @@ use frames::LineAnswer;
 use refusals::Refusal;
 
 // What the round waits for: the answer to a request, the answer to a read, or nothing any more.
-#[derive(Drop)]
+#[derive(Clone, Copy)]
 pub enum Phase {
     Asked,
     Read,
     Ended,
 }
 
-#[derive(Drop)]
+#[derive(Clone, Copy)]
 pub struct Counts {
     pub requests: u16,
     pub reads: u16,
@@ -26,7 +28,7 @@ pub struct Counts {
 }
 
 // A round at the group {m, c}.
-#[derive(Drop)]
+#[derive(Clone, Copy)]
 pub struct Round {
     pub phase: Phase,
     pub m: u16,
@@ -64,6 +66,7 @@ impl Round {
     }
 
     // Takes the line's answer to the word that was handed out last.
+    #[tactic(auto, unfolding(crate::specs::Rounds::step_by))]
     pub fn answer(self, answer: LineAnswer) -> Step
         ensures { told result ≡ told (step_of self answer) }
     {
