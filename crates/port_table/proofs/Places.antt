@@ -13,7 +13,7 @@ use lib.Seq.{split_at, take-take, get_or-take, take-suc, length-take-le}
 use Rattle.rows.specs.Rows.{data_bytes}
 use Rattle.port_table.specs.declared.Port.{Port}
 use Rattle.port_table.specs.declared.Seen.{Seen}
-use Rattle.port_table.specs.Table.{good, port_bytes, table_bytes, before, place_of, offset_of, port_of, no_port}
+use Rattle.port_table.specs.Table.{port_bytes, table_bytes, before, place_of, offset_of, port_of, no_port}
 use Rattle.port_table.specs.Inside.{Walked}
 use Rattle.port_table.proofs.OneMore.{bytes_append, bytes_more, place_most}
 use Rattle.port_table.proofs.Steps.{shown}

@@ -4,7 +4,7 @@ use Rattle.port_table.specs.declared.Port.{Port}
 use Rattle.port_table.specs.declared.goodness.Taken.{Taken}
 use Rattle.port_table.specs.Inside.{none_taken, walked_of}
 use Rattle.port_table.proofs.Steps.{walked_is}
-use Rattle.port_table.proofs.OneBefore.{Takes, none_taken_lem, both, start_is, part_taken, walked_whole, all_taken, shows_all}
+use Rattle.port_table.proofs.OneBefore.{Takes, none_taken_lem, both, start_is, part_taken, walked_whole}
 use Rattle.port_table.proofs.test_table.Goals as goal
 
 start-takes : (ps : List Port) (t : Taken) (m : ℕ) → t ≡ none_taken → m ≡ walked_of (length ps) → length ps ≤ 256 → Takes t (drop m ps)

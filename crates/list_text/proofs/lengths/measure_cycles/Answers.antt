@@ -1,11 +1,8 @@
 -- `measure_cycles` meets its promise: its loop by `CyclesLaws`.
 -- Assumes nothing.
-use borrow.Author.Rules.{rules}
 use native.Mathlib.Omega.{arith}
-use Prim.Native.Nat.{◌-◌}
-use mathlib.Core.Path.{sym, ◌∙◌}
 use Rattle.periods.proofs.PeriodLaws.{after_header_lem}
-use Rattle.list_text.proofs.CyclesLaws.{Measuring, measuring_start, measuring_end, small_n, size_small, cycle_here, place_there, long_small, measuring_more}
+use Rattle.list_text.proofs.CyclesLaws.{measuring_start, measuring_end, size_small, cycle_here, long_small, measuring_more}
 use Rattle.list_text.proofs.lengths.measure_cycles.Goals as goal
 
 pub loop-n-init : goal.loop-n-init

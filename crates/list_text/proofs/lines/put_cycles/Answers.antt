@@ -1,10 +1,8 @@
 -- `put_cycles` meets its promise: its loop by `CyclesLaws`.
 -- Assumes nothing.
-use borrow.Author.Rules.{rules}
 use native.Mathlib.Omega.{arith}
-use Prim.Native.Nat.{◌-◌}
 use Rattle.periods.proofs.PeriodLaws.{after_header_lem}
-use Rattle.list_text.proofs.CyclesLaws.{Writing, writing_start, writing_end, small_n, size_small, place_known, cycle_fits, writing_more}
+use Rattle.list_text.proofs.CyclesLaws.{writing_start, writing_end, size_small, cycle_fits, writing_more}
 use Rattle.list_text.proofs.lines.put_cycles.Goals as goal
 
 pub loop-n-init : goal.loop-n-init

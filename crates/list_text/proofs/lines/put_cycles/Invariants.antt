@@ -1,10 +1,7 @@
 -- `put_cycles` meets its promise: its loop by `CyclesLaws`.
 -- Assumes nothing.
-use borrow.Author.Rules.{rules}
-use native.Mathlib.Omega.{arith}
 use Prim.Native.Nat.{◌-◌}
-use Rattle.periods.proofs.PeriodLaws.{after_header_lem}
-use Rattle.list_text.proofs.CyclesLaws.{Writing, writing_start, writing_end, small_n, size_small, place_known, cycle_fits, writing_more}
+use Rattle.list_text.proofs.CyclesLaws.{Writing}
 use Rattle.list_text.proofs.lines.put_cycles.Given as goal
 
 abbrev pub invariant-loop-n : goal.invariant-loop-n
