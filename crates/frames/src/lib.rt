@@ -13,21 +13,21 @@ ghost use Rattle.frames.specs.Answers.{told_word, told_wrote, told_line};
 use refusals::Refusal;
 
 // What reading a Master Frame answers: its word, or the refusal.
-#[derive(Drop)]
+#[derive(Clone, Copy)]
 pub enum MasterRead {
     Word(u16),
     Refused(Refusal),
 }
 
 // What a call that fills a lent output answers: how many bytes of it, or the refusal.
-#[derive(Drop)]
+#[derive(Clone, Copy)]
 pub enum Wrote {
     Bytes(usize),
     Refused(Refusal),
 }
 
 // What the line answers to a Master Frame.
-#[derive(Drop)]
+#[derive(Clone, Copy)]
 pub enum LineAnswer {
     Silence,
     Reply(u16),

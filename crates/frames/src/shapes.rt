@@ -7,7 +7,7 @@ ghost use Rattle.rows.specs.Rows.{reserved, data_bytes, blocks, block_bytes, fra
 // it would widen the word's first byte twice, and the answer waits for that.
 const ALLOWED: u32 = 0xF31F;
 
-#[derive(Drop)]
+#[derive(Clone, Copy)]
 pub(crate) struct Shape {
     pub(crate) allowed: bool,
     pub(crate) data: usize,

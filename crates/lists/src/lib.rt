@@ -26,21 +26,21 @@ pub struct Header {
     pub reserve: u16,
 }
 
-#[derive(Drop)]
+#[derive(Clone, Copy)]
 pub(crate) enum HeadRead {
     Head(Header, usize),
     Refused(Refusal),
 }
 
 // The place after a part of the list, and how many words the part has.
-#[derive(Drop)]
+#[derive(Clone, Copy)]
 pub(crate) enum Part {
     Done(usize, usize),
     Refused(Refusal),
 }
 
 // An accepted list's header and its number of words.
-#[derive(Drop)]
+#[derive(Clone, Copy)]
 pub enum ListCheck {
     Accepted(Header, usize),
     Refused(Refusal),

@@ -8,7 +8,7 @@ ghost use Rattle.numbers.specs.Answers.{told_number};
 use refusals::Refusal;
 
 // A number and the place after it.
-#[derive(Drop)]
+#[derive(Clone, Copy)]
 pub enum Number {
     Value(u16, usize),
     Refused(Refusal),
@@ -71,7 +71,7 @@ pub fn number_at(s: &[u8], at: usize) -> Number
 }
 
 // Carries the list's bytes and its place.
-#[derive(Drop)]
+#[derive(Clone, Copy)]
 pub struct Reader<'a> {
     pub src: &'a [u8],
     pub at: usize,
@@ -100,7 +100,7 @@ pub fn read_number(s: &[u8], at: usize) -> Number
 }
 
 // How many numbers were read, and the place after them.
-#[derive(Drop)]
+#[derive(Clone, Copy)]
 pub struct Run {
     pub count: usize,
     pub next: usize,
@@ -129,7 +129,7 @@ pub fn read_numbers(s: &[u8], at: usize, out: &mut [u16]) -> Run
 }
 
 // What some numbers add up to, and the place after them.
-#[derive(Drop)]
+#[derive(Clone, Copy)]
 pub struct Summed {
     pub total: usize,
     pub next: usize,

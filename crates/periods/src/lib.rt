@@ -14,14 +14,14 @@ use numbers::{read_numbers, sum_numbers};
 use refusals::Refusal;
 
 // How many words were written.
-#[derive(Drop)]
+#[derive(Clone, Copy)]
 pub enum Sent {
     Words(usize),
     Refused(Refusal),
 }
 
 // How many words of a cycle go out, and the place after the cycle.
-#[derive(Drop)]
+#[derive(Clone, Copy)]
 struct Part {
     many: usize,
     next: usize,

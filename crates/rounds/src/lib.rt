@@ -39,7 +39,7 @@ pub struct Round {
 }
 
 // The round and its next word; or the round that has ended, and its counts; or a refusal.
-#[derive(Drop)]
+#[derive(Clone, Copy)]
 pub enum Step {
     Next(Round, u16),
     End(Round, Counts),

@@ -1,4 +1,5 @@
 -- Part after part, by the laws of `OneBefore`.
+-- Assumes nothing.
 use Rattle.std.proofs.Common.{ℕ, ◌≤◌, ◌≡◌, List, [], length, drop, drop_of_length-le, sym, ◌∙◌, ltb-true, arith}
 use Rattle.port_table.specs.declared.Port.{Port}
 use Rattle.port_table.specs.declared.goodness.Taken.{Taken}

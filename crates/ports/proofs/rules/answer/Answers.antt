@@ -1,4 +1,5 @@
 -- Each way out is one of the order of checks.
+-- Assumes nothing.
 use Rattle.std.proofs.Common.{not, ap, ◌∙◌, arith}
 use Rattle.frames.specs.Words.{address}
 use Rattle.rows.specs.Rows.{data_bytes}

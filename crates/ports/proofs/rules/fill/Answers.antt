@@ -1,4 +1,5 @@
 -- Each way out is one of the order of checks.
+-- Assumes nothing.
 use Rattle.std.proofs.Common.{not, ap, refl, ◌∙◌}
 use Rattle.ports.proofs.Bytes.{port_within}
 use Rattle.ports.proofs.Order.{fill_13, fill_store_lem, fill_15, fill_17, fill_1, fill_done, size_is}

@@ -1,4 +1,5 @@
 -- Each way out is one of the order of checks.
+-- Assumes nothing.
 use Rattle.std.proofs.Common.{not, ap, ◌∙◌, refl, arith}
 use Rattle.port_table.proofs.OneMore.{size_most}
 use Rattle.ports.proofs.Bytes.{front_whole, port_within, place_small}

@@ -1,4 +1,5 @@
 -- Each way out is one of the order of checks, and each turn ages the records of one part more.
+-- Assumes nothing.
 use Rattle.std.proofs.Common.{ℕ, ◌+◌, ◌*◌, ◌<◌, ◌≤◌, ◌≡◌, not, List, get_or, take_all, refl, ap, ◌∙◌, arith}
 use Rattle.port_table.specs.declared.Port.{Port}
 use Rattle.port_table.specs.declared.Tested.{Tested}
