@@ -219,7 +219,7 @@ mvb_basic_period = record { ended = mvb.list_calls.mvb_basic_period.ended; routi
 abbrev pub mvb_list_text : EntryPoint
 mvb_list_text = record { ended = mvb.list_calls.mvb_list_text.ended; routine = program mvb-run.list_calls.mvb_list_text.Symbol.name; promise = mvb.list_calls.mvb_list_text.clauses; refuses = 4 ∷ []; told = λ κs r. told_code r; passed_back = λ κs e. e }
 
--- ---- ports and ages; C calls these themselves
+-- ---- ports and ages; the calls themselves have the form that C calls
 
 -- goodness test and lookup, over any table
 abbrev pub look : EntryPoint

@@ -36,7 +36,7 @@ pub enum LineAnswer {
 
 // Reads a Master Frame: a word and its check sequence. Most of those on a bus ask for Process Data, F_codes 0 to 4: these
 // have the shortest way.
-#[tactic(auto, unfolding(crate::specs::Master::master_read))]
+#[tactic(auto, using(crate::proofs::Order::process_data_lem), unfolding(crate::specs::Master::master_read))]
 pub fn master_read(frame: &[u8]) -> MasterRead
     ensures { told_word result ≡ master_read frame.now }
 {

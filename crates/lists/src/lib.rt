@@ -61,6 +61,7 @@ pub fn periods_of(ms: u16) -> usize
 }
 
 // After the last cycle: 11, then 10. What passes 10 never gets 19: no more than 41 words fit into a Basic Period.
+#[tactic(auto, using(crate::proofs::ListLaws::finish_11))]
 fn finish(s: &[u8], head: Header, end: usize, words: usize, load: &[u32]) -> ListCheck
     requires { GoodHead head }
     ensures { (weights : List ℕ) (cs : List Cycle) → WeightsOf head.gap weights → length load.now ≡ periods_of head.ms
@@ -103,6 +104,7 @@ fn check_cycles(s: &[u8], head: Header, at: usize) -> ListCheck
 }
 
 // Is a list accepted.
+#[tactic(auto, using(crate::proofs::ListLaws::too_long, crate::proofs::ListLaws::no_header, crate::proofs::ListLaws::header_yes))]
 pub fn list_check(list: &[u8]) -> ListCheck
     ensures { told_check result ≡ told_read (accepted list.now) }
 {

@@ -225,9 +225,12 @@ module _ (w : Walk) (a : ℕ) (ps : List Port) (k : Keeps w a ps) (i : ℕ) (l :
 not_climbing : (ps : List Port) → climbs 0 ps ≡ false → good ps ≡ false
 not_climbing ps h = good_is ps ∙ ap (λ (b : Bool). leb (length ps) 256 && (b && leb (next_from 0 ps) 4096)) h ∙ and-false (leb (length ps) 256)
 
+pub too_many : (a : ℕ) (ps : List Port) → 256 < length ps → seen_of a ps ≡ empty_seen false
+too_many a ps h = seen_bad a ps (good_is ps ∙ ap (λ (b : Bool). b && (climbs 0 ps && leb (next_from 0 ps) 4096)) (lt-leb (length ps) 256 h))
+
 module _ (w : Walk) (n : ℕ) where
   pub shown_many : 256 < n → Shows w n (empty_seen false)
-  shown_many h = λ a ps l k. sym (seen_bad a ps (good_is ps ∙ ap (λ (b : Bool). b && (climbs 0 ps && leb (next_from 0 ps) 4096)) (lt-leb (length ps) 256 (omega arith))))
+  shown_many h = λ a ps l k. sym (too_many a ps (omega arith))
 
   module _ (few : n ≤ 256) where
     pub shown_unordered : not w.good ≡ true → Shows w n (empty_seen false)

@@ -1,4 +1,4 @@
-// Ports and ages (document 01, "Ports and ages"): the five calls, as C sees them too.
+// Ports and ages (document 01, "Ports and ages"): the five calls, as C calls them. `mvb_c` exports them.
 // An answer below 65,536 is the value, 65,536 + n is refusal n.
 #![tactic(auto)]
 

@@ -48,6 +48,7 @@ pub enum Step {
 
 impl Round {
     // A round that hands out the request for all devices, over these parameter bits.
+    #[tactic(auto, unfolding(crate::specs::Rounds::start_of))]
     pub fn start(params: u16) -> Step
         ensures { told result ≡ told (start_of params) }
     {
