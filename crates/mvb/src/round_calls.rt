@@ -105,7 +105,7 @@ pub fn mvb_round_start(params: u16, run: &mut [u16]) -> u32
 // What a round must know of the bytes that came: nothing after a read, whose answer it does not look at; and a word with
 // another F_code than 12 is no good reply, as a collision is none, so that its check sequence need not be computed. Other
 // lengths than 3 come first, so that silence and collisions have a short way.
-#[tactic(auto, using(crate::proofs::RoundLaws::heard_read, crate::proofs::RoundLaws::heard_other))]
+#[tactic(auto, using(crate::proofs::RoundLaws::heard_read, crate::proofs::RoundLaws::heard_none, crate::proofs::RoundLaws::heard_many, crate::proofs::RoundLaws::heard_other))]
 fn heard(phase: u16, bytes: &[u8]) -> LineAnswer
     ensures { AsHeard phase bytes.now result }
 {
