@@ -4,7 +4,7 @@
 ghost use Rattle.std.specs.Prelude.{◌≡◌, ◌++◌, ◌+◌, ◌≤◌, length, drop, IfSome, OnErr};
 ghost use Rattle.refusals.specs.Told.{told};
 ghost use Rattle.numbers.specs.Number.{number, number_at, run, sum};
-ghost use Rattle.numbers.specs.Answers.{taken_of, value_and_place, value_then};
+ghost use Rattle.numbers.specs.Answers.{taken_of, value_and_place, value_then, left, Yields};
 
 use refusals::Refusal;
 
@@ -64,10 +64,12 @@ impl<'a> Reader<'a> {
     }
 
     // The number at the reader's place. The reader stands after it then, or where it stood if there is none.
+    #[tactic(auto, using(crate::proofs::Answers::yields, crate::proofs::Answers::yields_none))]
     pub fn next(&mut self) -> Result<u16, Refusal>
         ensures value { told (value_then self.new.at) result ≡ number_at self.old.src.now self.old.at }
         ensures bytes { self.new.src ≡ self.old.src }
         ensures err { OnErr result (self.new.at ≡ self.old.at) }
+        ensures left { Yields result (left self.old) (left self.new) }
     {
         let (value, next) = match number_at(self.src, self.at) {
             Ok(read) => read,
@@ -97,7 +99,6 @@ pub struct Run {
 }
 
 // Numbers one after another, as far as they go and out has places for them.
-
 pub fn read_numbers(s: &[u8], at: usize, out: &mut [u16]) -> Run
     ensures { (result.count ≡ length (run (length out.old) (drop at s.now)).values) × (result.next ≡ at + (run (length out.old) (drop at s.now)).used)
         × (out.new ≡ (run (length out.old) (drop at s.now)).values ++ drop (length (run (length out.old) (drop at s.now)).values) out.old) }
@@ -126,7 +127,6 @@ pub struct Summed {
 }
 
 // At most k numbers one after another, as far as they go, added up.
-
 pub fn sum_numbers(s: &[u8], at: usize, k: u16) -> Summed
     ensures { (result.total ≡ sum (run k (drop at s.now)).values) × (result.next ≡ at + (run k (drop at s.now)).used) }
 {
