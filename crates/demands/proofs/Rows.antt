@@ -18,6 +18,7 @@ use Rattle.checks.proofs.Numbers.{number_byte_lt}
 use Rattle.checks.proofs.Parity.{length_plain}
 use Rattle.checks.proofs as checks
 use Rattle.rows.proofs as row-table
+use Rattle.runs.proofs as runs
 use Rattle.frames.proofs as frames
 use Rattle.frames.specs.declared.LineAnswer.{LineAnswer}
 use Rattle.frames.specs.declared.LineAnswer.TheVariants.{Silence, Reply, Collision}
@@ -114,6 +115,14 @@ row_of = record {
   says = said table.row_of _ (λ M 𝓤 𝓛 mem run κs a. refl);
   refusing = λ κs a r ws c. answers _;
   one = λ κs a r s ws vs c d. (c ∙ sym d, refl);
+}
+
+pub copy_front : Shown table.copy_front
+copy_front = record {
+  promised = λ M 𝓤 𝓛 𝓜 𝓡. runs.copy_front.Met.met 𝓤 𝓛 𝓜 (within 𝓤 𝓛.H 𝓜 𝓡 program) has.runs_copy_front;
+  says = said table.copy_front _ (λ M 𝓤 𝓛 mem run κs a. refl);
+  refusing = λ κs a r ws c. answers _;
+  one = λ κs a r s ws vs c d. (refl, ap (λ (x : List ℕ). (tt, (x, tt))) (c ∙ sym d));
 }
 
 pub master_read : Shown table.master_read
@@ -487,4 +496,4 @@ mvb_search = record {
 -- all of them, in the order of the table
 pub rows : EachShown table.entry_points
 rows =
-    (refusal_number, (refusal_code, (check_of, (check_of_word, (row_of, (master_read, (master_write, (slave_read, (slave_write, (line_answer, (mvb_check_of, (mvb_master_read, (mvb_master_write, (mvb_slave_read, (mvb_slave_write, (telegram_bits, (guard, (mvb_telegram_bits, (mvb_guard, (number_at, (reader_new, (reader_next, (read_number, (read_numbers, (sum_numbers, (cycles_of, (periods_of, (list_check, (basic_period, (list_text, (mvb_list_check, (mvb_basic_period, (mvb_list_text, (look, (test_table, (mvb_arrive, (mvb_answer, (mvb_read, (mvb_fill, (mvb_tick, (bound, (is_group, (in_group, (round_start, (round_answer, (search_set, (mvb_round_start, (mvb_round_answer, (mvb_search, tt)))))))))))))))))))))))))))))))))))))))))))))))))
+    (refusal_number, (refusal_code, (check_of, (check_of_word, (row_of, (copy_front, (master_read, (master_write, (slave_read, (slave_write, (line_answer, (mvb_check_of, (mvb_master_read, (mvb_master_write, (mvb_slave_read, (mvb_slave_write, (telegram_bits, (guard, (mvb_telegram_bits, (mvb_guard, (number_at, (reader_new, (reader_next, (read_number, (read_numbers, (sum_numbers, (cycles_of, (periods_of, (list_check, (basic_period, (list_text, (mvb_list_check, (mvb_basic_period, (mvb_list_text, (look, (test_table, (mvb_arrive, (mvb_answer, (mvb_read, (mvb_fill, (mvb_tick, (bound, (is_group, (in_group, (round_start, (round_answer, (search_set, (mvb_round_start, (mvb_round_answer, (mvb_search, tt))))))))))))))))))))))))))))))))))))))))))))))))))

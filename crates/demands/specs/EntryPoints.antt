@@ -21,6 +21,8 @@ use Rattle.checks.proofs as checks-run
 use Rattle.checks.specs.Bits.{one}
 use Rattle.rows.specs.contracts as row-table
 use Rattle.rows.proofs as row-table-run
+use Rattle.runs.specs.contracts as runs
+use Rattle.runs.proofs as runs-run
 use Rattle.frames.specs.contracts as frames
 use Rattle.frames.proofs as frames-run
 use Rattle.frames.specs.Answers.{told_word, told_wrote, told_line}
@@ -102,6 +104,10 @@ check_of_word = record { ended = checks.check_of_word.ended; routine = program c
 -- the row of any F_code
 abbrev pub row_of : EntryPoint
 row_of = record { ended = row-table.row_of.ended; routine = program row-table-run.row_of.Symbol.name; promise = row-table.row_of.clauses; refuses = []; told = λ κs r. gives r; passed_back = λ κs e. e }
+
+-- one run of bytes to the front of another
+abbrev pub copy_front : EntryPoint
+copy_front = record { ended = runs.copy_front.ended; routine = program runs-run.copy_front.Symbol.name; promise = runs.copy_front.clauses; refuses = []; told = λ κs r. gives []; passed_back = λ κs e. e }
 
 -- "Master read: 1, 2, 3"
 abbrev pub master_read : EntryPoint
@@ -290,4 +296,4 @@ mvb_search = record { ended = mvb.round_calls.mvb_search.ended; routine = progra
 -- all of them
 abbrev pub entry_points : List EntryPoint
 entry_points =
-    refusal_number ∷ refusal_code ∷ check_of ∷ check_of_word ∷ row_of ∷ master_read ∷ master_write ∷ slave_read ∷ slave_write ∷ line_answer ∷ mvb_check_of ∷ mvb_master_read ∷ mvb_master_write ∷ mvb_slave_read ∷ mvb_slave_write ∷ telegram_bits ∷ guard ∷ mvb_telegram_bits ∷ mvb_guard ∷ number_at ∷ reader_new ∷ reader_next ∷ read_number ∷ read_numbers ∷ sum_numbers ∷ cycles_of ∷ periods_of ∷ list_check ∷ basic_period ∷ list_text ∷ mvb_list_check ∷ mvb_basic_period ∷ mvb_list_text ∷ look ∷ test_table ∷ mvb_arrive ∷ mvb_answer ∷ mvb_read ∷ mvb_fill ∷ mvb_tick ∷ bound ∷ is_group ∷ in_group ∷ round_start ∷ round_answer ∷ search_set ∷ mvb_round_start ∷ mvb_round_answer ∷ mvb_search ∷ []
+    refusal_number ∷ refusal_code ∷ check_of ∷ check_of_word ∷ row_of ∷ copy_front ∷ master_read ∷ master_write ∷ slave_read ∷ slave_write ∷ line_answer ∷ mvb_check_of ∷ mvb_master_read ∷ mvb_master_write ∷ mvb_slave_read ∷ mvb_slave_write ∷ telegram_bits ∷ guard ∷ mvb_telegram_bits ∷ mvb_guard ∷ number_at ∷ reader_new ∷ reader_next ∷ read_number ∷ read_numbers ∷ sum_numbers ∷ cycles_of ∷ periods_of ∷ list_check ∷ basic_period ∷ list_text ∷ mvb_list_check ∷ mvb_basic_period ∷ mvb_list_text ∷ look ∷ test_table ∷ mvb_arrive ∷ mvb_answer ∷ mvb_read ∷ mvb_fill ∷ mvb_tick ∷ bound ∷ is_group ∷ in_group ∷ round_start ∷ round_answer ∷ search_set ∷ mvb_round_start ∷ mvb_round_answer ∷ mvb_search ∷ []

@@ -88,19 +88,7 @@ fn copy_block(from: &[u8], to: &mut [u8])
         copy_four(from, to);
         copy_four(&from[4..], &mut to[4..]);
     } else {
-        copy_front(from, to);
-    }
-}
-
-// By a loop of its own: so all that the library runs is in its own crates.
-fn copy_front(from: &[u8], to: &mut [u8])
-    requires { length from.now ≤ length to.old }
-    ensures { to.new ≡ from.now ++ drop (length from.now) to.old }
-{
-    let mut i: usize = 0;
-    while i < from.len() {
-        to[i] = from[i];
-        i += 1;
+        runs::copy_front(from, to);
     }
 }
 
