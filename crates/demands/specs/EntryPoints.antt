@@ -14,7 +14,7 @@ use denote.Triple.Entry.{Args, Res}
 use denote.Triple.Clauses.{Ended, AtExit, Clauses}
 use Rattle.refusals.specs.contracts as refusals
 use Rattle.refusals.proofs as refusals-run
-use Rattle.refusals.specs.Told.{Told, gives}
+use Rattle.refusals.specs.Told.{Told, gives, told, single}
 use Rattle.refusals.specs.Codes.{told_code}
 use Rattle.checks.specs.contracts as checks
 use Rattle.checks.proofs as checks-run
@@ -25,10 +25,10 @@ use Rattle.runs.specs.contracts as runs
 use Rattle.runs.proofs as runs-run
 use Rattle.frames.specs.contracts as frames
 use Rattle.frames.proofs as frames-run
-use Rattle.frames.specs.Answers.{told_word, told_wrote, told_line}
+use Rattle.frames.specs.Answers.{told_line}
 use Rattle.timing.specs.contracts as timing
 use Rattle.timing.proofs as timing-run
-use Rattle.timing.specs.Answers.{told_telegram, told_may_send}
+use Rattle.timing.specs.Answers.{yes}
 use Rattle.groups.specs.contracts as groups
 use Rattle.groups.proofs as groups-run
 use Rattle.rounds.specs.contracts as rounds
@@ -111,19 +111,19 @@ copy_front = record { ended = runs.copy_front.ended; routine = program runs-run.
 
 -- "Master read: 1, 2, 3"
 abbrev pub master_read : EntryPoint
-master_read = record { ended = frames.master_read.ended; routine = program frames-run.master_read.Symbol.name; promise = frames.master_read.clauses; refuses = 1 ∷ 2 ∷ 3 ∷ []; told = λ κs r. told_word r; passed_back = λ κs e. e }
+master_read = record { ended = frames.master_read.ended; routine = program frames-run.master_read.Symbol.name; promise = frames.master_read.clauses; refuses = 1 ∷ 2 ∷ 3 ∷ []; told = λ κs r. told single r; passed_back = λ κs e. e }
 
 -- "Master write, of a word: 3, 4"
 abbrev pub master_write : EntryPoint
-master_write = record { ended = frames.master_write.ended; routine = program frames-run.master_write.Symbol.name; promise = frames.master_write.clauses; refuses = 3 ∷ 4 ∷ []; told = λ κs r. told_wrote r; passed_back = λ κs e. e }
+master_write = record { ended = frames.master_write.ended; routine = program frames-run.master_write.Symbol.name; promise = frames.master_write.clauses; refuses = 3 ∷ 4 ∷ []; told = λ κs r. told single r; passed_back = λ κs e. e }
 
 -- "Slave read: 3 (of the expected F_code; above 15 also 3), 1, 2, 4"
 abbrev pub slave_read : EntryPoint
-slave_read = record { ended = frames.slave_read.ended; routine = program frames-run.slave_read.Symbol.name; promise = frames.slave_read.clauses; refuses = 3 ∷ 1 ∷ 2 ∷ 4 ∷ []; told = λ κs r. told_wrote r; passed_back = λ κs e. e }
+slave_read = record { ended = frames.slave_read.ended; routine = program frames-run.slave_read.Symbol.name; promise = frames.slave_read.clauses; refuses = 3 ∷ 1 ∷ 2 ∷ 4 ∷ []; told = λ κs r. told single r; passed_back = λ κs e. e }
 
 -- "Slave write: 3, 1, 4"
 abbrev pub slave_write : EntryPoint
-slave_write = record { ended = frames.slave_write.ended; routine = program frames-run.slave_write.Symbol.name; promise = frames.slave_write.clauses; refuses = 3 ∷ 1 ∷ 4 ∷ []; told = λ κs r. told_wrote r; passed_back = λ κs e. e }
+slave_write = record { ended = frames.slave_write.ended; routine = program frames-run.slave_write.Symbol.name; promise = frames.slave_write.clauses; refuses = 3 ∷ 1 ∷ 4 ∷ []; told = λ κs r. told single r; passed_back = λ κs e. e }
 
 -- silence, a reply or a collision, of any bytes
 abbrev pub line_answer : EntryPoint
@@ -153,11 +153,11 @@ mvb_slave_write = record { ended = mvb.frame_calls.mvb_slave_write.ended; routin
 
 -- "A telegram takes 33 + line bits of its Slave Frame + gap"
 abbrev pub telegram_bits : EntryPoint
-telegram_bits = record { ended = timing.telegram_bits.ended; routine = program timing-run.telegram_bits.Symbol.name; promise = timing.telegram_bits.clauses; refuses = 3 ∷ 6 ∷ []; told = λ κs r. told_telegram r; passed_back = λ κs e. e }
+telegram_bits = record { ended = timing.telegram_bits.ended; routine = program timing-run.telegram_bits.Symbol.name; promise = timing.telegram_bits.clauses; refuses = 3 ∷ 6 ∷ []; told = λ κs r. told single r; passed_back = λ κs e. e }
 
 -- "Guard ..: yes exactly if that telegram takes at most r"
 abbrev pub guard : EntryPoint
-guard = record { ended = timing.guard.ended; routine = program timing-run.guard.Symbol.name; promise = timing.guard.clauses; refuses = 3 ∷ 6 ∷ []; told = λ κs r. told_may_send r; passed_back = λ κs e. e }
+guard = record { ended = timing.guard.ended; routine = program timing-run.guard.Symbol.name; promise = timing.guard.clauses; refuses = 3 ∷ 6 ∷ []; told = λ κs r. told yes r; passed_back = λ κs e. e }
 
 -- the same as C calls it
 abbrev pub mvb_telegram_bits : EntryPoint

@@ -1,24 +1,17 @@
 -- A word and its check sequence as written, and that a Slave Frame that passes every check is read or written.
 -- Assumes nothing.
-use mathlib.Core.Path.{◌≡◌, refl, sym, ap, ap₂, ◌∙◌}
-use mathlib.Core.Bool.{Bool, true, false, not, cond}
+use mathlib.Core.Path.{◌≡◌, ap}
+use mathlib.Core.Bool.{false}
 use mathlib.Core.List.{List, [], ◌∷◌, ◌++◌}
-use Prim.Native.Nat.{ℕ, zero, suc, ◌+◌, ◌*◌, ◌/◌, ◌%◌, ◌≤◌, ◌<◌}
+use Prim.Native.Nat.{ℕ, ◌/◌, ◌%◌, ◌≤◌}
 use native.Mathlib.Omega.{arith}
-use borrow.Author.Tests.{eq-eqb, ne_eqb, lt-ltb, le-ltb, not-true, not-false}
-use lib.Dec.{eqb}
-use lib.ListN.{length, get_or, set, drop}
+use borrow.Author.Tests.{eq-eqb, le-ltb}
+use lib.ListN.{length, set, drop}
 use Rattle.checks.specs.Check.{check_of}
-use Rattle.refusals.specs.Told.{gives, refusal}
-use Rattle.frames.specs.Words.{f_code_of, word_in, word_bytes}
-use Rattle.rows.specs.Rows.{data_bits, reserved, data_bytes, blocks, block_bytes, frame_bytes, line_bits, row_of}
-use Rattle.frames.specs.Blocks.{right_blocks, data_in, framed}
-use Rattle.frames.specs.Master.{master_frame, master_read, master_write, master_write_out}
-use Rattle.frames.specs.Slave.{slave_frame, slave_data, slave_read_by, slave_read, slave_read_out, slave_write_by, slave_write, slave_write_out}
-use Rattle.frames.specs.Answers.{told_line}
-use Rattle.frames.specs.Line.{answer_of, line_answer}
-use Rattle.frames.specs.declared.LineAnswer.TheVariants.{Silence, Reply, Collision}
-use Rattle.rows.proofs.Rows.{full, whole, lone_word}
+use Rattle.frames.specs.Words.{word_bytes}
+use Rattle.rows.specs.Rows.{reserved, data_bytes, blocks, block_bytes, frame_bytes}
+use Rattle.frames.specs.Blocks.{right_blocks, framed}
+use Rattle.frames.specs.Slave.{slave_read_by, slave_write_by}
 
 -- a word and its check sequence, as written
 pub word_written : (out : List ℕ) (word check : ℕ) → 3 ≤ length out → check ≡ check_of (word / 256 ∷ word % 256 ∷ [])

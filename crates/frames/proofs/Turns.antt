@@ -125,10 +125,6 @@ framed_length (suc i) n d h =
 
 -- ---- a piece behind what was made so far
 
-front_all : (from part v : List ℕ) → length from ≡ length part → v ≡ take (length part) from ++ drop (length from) part → v ≡ from
-front_all from part v l e =
-    e ∙ ap₂ ◌++◌ (take_all (length part) from (omega arith)) (drop_of_length-le part {i = length from} (omega arith)) ∙ append-nil from
-
 module _ (out init done piece : List ℕ) (a n : ℕ) (e : out ≡ done ++ drop a init) (l : length done ≡ a) (h : a + n ≤ length init) (k : length piece ≡ n) where
   out_long : a + n ≤ length out
   out_long = omega (arith, ap length e, length-append done (drop a init), length-drop a init)
@@ -158,15 +154,13 @@ laid_check out init done a c e l h =
 
 -- the part of the source at hand, and the part of the output that was lent for it
 module _ (from out v : List ℕ) (at to n : ℕ) (h : at + n ≤ length from) (g : to + n ≤ length out)
-    (e : v ≡ take (length (take (to + n - to) (drop to out))) (take (at + n - at) (drop at from)) ++ drop (length (take (at + n - at) (drop at from))) (take (to + n - to) (drop to out))) where
+    (e : v ≡ take (at + n - at) (drop at from)) where
   lent : v ≡ take n (drop at from)
-  lent =
-      front_all (take (at + n - at) (drop at from)) (take (to + n - to) (drop to out)) v (length_part at n from h ∙ sym (length_part to n out g)) e
-      ∙ ap (λ (k : ℕ). take k (drop at from)) (let s : at + n - at ≡ n = omega arith in s)
+  lent = e ∙ ap (λ (k : ℕ). take k (drop at from)) (let s : at + n - at ≡ n = omega arith in s)
 
 pub copy_next : (frame out init v : List ℕ) (count i n : ℕ) → i < count → count * (n + 1) ≤ length frame → count * n ≤ length init
     → out ≡ data_in i n frame ++ drop (i * n) init
-    → v ≡ take (length (take (i * n + n - i * n) (drop (i * n) out))) (take (i * (n + 1) + n - i * (n + 1)) (drop (i * (n + 1)) frame)) ++ drop (length (take (i * (n + 1) + n - i * (n + 1)) (drop (i * (n + 1)) frame))) (take (i * n + n - i * n) (drop (i * n) out))
+    → v ≡ take (i * (n + 1) + n - i * (n + 1)) (drop (i * (n + 1)) frame)
     → put_mid (i * n) (i * n + n - i * n) out v ≡ data_in (i + 1) n frame ++ drop ((i + 1) * n) init
 copy_next frame out init v count i n some hf ho e f =
     let at : ℕ = i * (n + 1) in
@@ -182,7 +176,7 @@ copy_next frame out init v count i n some hf ho e f =
 
 pub write_next : (d out init v : List ℕ) (count i n c : ℕ) → i < count → count * n ≤ length d → count * (n + 1) ≤ length init
     → out ≡ framed i n d ++ drop (i * (n + 1)) init
-    → v ≡ take (length (take (i * (n + 1) + n - i * (n + 1)) (drop (i * (n + 1)) out))) (take (i * n + n - i * n) (drop (i * n) d)) ++ drop (length (take (i * n + n - i * n) (drop (i * n) d))) (take (i * (n + 1) + n - i * (n + 1)) (drop (i * (n + 1)) out))
+    → v ≡ take (i * n + n - i * n) (drop (i * n) d)
     → c ≡ check_of (take (i * n + n - i * n) (drop (i * n) d))
     → set (put_mid (i * (n + 1)) (i * (n + 1) + n - i * (n + 1)) out v) (i * (n + 1) + n) c ≡ framed (i + 1) n d ++ drop ((i + 1) * (n + 1)) init
 write_next d out init v count i n c some hd ho e f g =

@@ -50,7 +50,31 @@ fn copy_run(frame: &[u8], count: usize, size: usize, out: &mut [u8])
     for i in 0..count {
         let at = i * (size + 1);
         let to = i * size;
-        runs::copy_front(&frame[at..at + size], &mut out[to..to + size]);
+        copy_block(&frame[at..at + size], &mut out[to..to + size]);
+    }
+}
+
+// Copies a block. All its bytes are read before one is written, so that they can move at once.
+fn copy_block(from: &[u8], to: &mut [u8])
+    requires { length from.now ≡ length to.old }
+    ensures { to.new ≡ from.now }
+{
+    match *from {
+        [a, b] => {
+            to[0] = a;
+            to[1] = b;
+        }
+        [a, b, c, d, e, f, g, h] => {
+            to[0] = a;
+            to[1] = b;
+            to[2] = c;
+            to[3] = d;
+            to[4] = e;
+            to[5] = f;
+            to[6] = g;
+            to[7] = h;
+        }
+        _ => runs::copy_front(from, to),
     }
 }
 
@@ -76,7 +100,7 @@ fn write_run(data: &[u8], count: usize, size: usize, out: &mut [u8])
         let to = i * (size + 1);
         let end = to + size;
         let block = &data[at..at + size];
-        runs::copy_front(block, &mut out[to..end]);
+        copy_block(block, &mut out[to..end]);
         out[end] = checks::check_of(block);
     }
 }

@@ -1,12 +1,11 @@
 -- What a row says of a telegram's time.
 -- Assumes nothing.
 use mathlib.Core.Path.{◌≡◌, ap, ◌∙◌}
-use mathlib.Core.Bool.{false}
 use mathlib.Core.List.{List}
 use Prim.Native.Nat.{ℕ, ◌≤◌}
 use native.Mathlib.Omega.{arith}
 use lib.ListN.{get_or}
-use Rattle.rows.specs.Rows.{reserved, line_bits, row_of}
+use Rattle.rows.specs.Rows.{line_bits, row_of}
 use Rattle.rows.proofs.Rows.{allowed_row, line_is, whole_most}
 
 module _ (f : ℕ) (row : List ℕ) (e : row ≡ row_of f) (h : get_or row 3 0 ≡ 0 → ⊥) where
