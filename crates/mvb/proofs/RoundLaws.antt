@@ -1,6 +1,6 @@
 -- A round lent as a run of six numbers: what a start and a step leave in it, way out by way out.
 -- Assumes nothing.
-use mathlib.Core.Path.{◌≡◌, refl, sym, ap, ap₂, subst, ◌∙◌}
+use mathlib.Core.Path.{◌≡◌, refl, sym, ap, subst, ◌∙◌}
 use mathlib.Core.Bool.{Bool, true, false, cond}
 use mathlib.Core.List.{List, [], ◌∷◌, ◌++◌}
 use Prim.Native.Nat.{ℕ, zero, suc, ◌/◌, ◌≤◌, ◌<◌}
@@ -20,12 +20,11 @@ use Rattle.frames.specs.Line.{right_frame, answer_of, line_answer}
 use Rattle.frames.proofs.Apart.{lines_apart}
 use Rattle.groups.specs.Groups.{Place, over, at, follows, request_word}
 use Rattle.rounds.specs.declared.Counts.{Counts}
-use Rattle.rounds.specs.declared.Phase.{Phase}
 use Rattle.rounds.specs.declared.Phase.TheVariants.{Asked, Read, Ended}
 use Rattle.rounds.specs.declared.Round.{Round}
 use Rattle.rounds.specs.declared.Step.{Step}
 use Rattle.rounds.specs.declared.Step.TheVariants.{Next, End}
-use Rattle.rounds.specs.Rounds.{Verdict, nobody, named, unclear, judge, none, one_request, one_unresolved, round, stand, split, heard, impossible, ended, reading, Handed, step_by, step_of, start_of}
+use Rattle.rounds.specs.Rounds.{Verdict, nobody, named, unclear, judge, none, one_request, one_unresolved, round, stand, heard, impossible, ended, reading, Handed, step_by, step_of, start_of}
 use Rattle.rounds.specs.Told.{phase_number, round_values, step_values}
 use Rattle.rounds.proofs.Apart.{steps_apart}
 use Rattle.mvb.specs.Rounds.{phase_of, round_in, stored, told_step, run_after, start_answer, start_run, round_answer, round_run}

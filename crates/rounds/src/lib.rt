@@ -115,10 +115,13 @@ impl Round {
         ensures { result ≡ resumed self.m self.c self.counts }
     {
         match answer {
-            LineAnswer::Silence | LineAnswer::Reply(_) | LineAnswer::Collision => match self.next() {
-                Step::Next(_, _) if 8190 < self.counts.requests => Err(Refusal::ImpossibleRound),
-                step => Ok(step),
-            },
+            LineAnswer::Silence | LineAnswer::Reply(_) | LineAnswer::Collision =>
+                match self.next() {
+                    Step::Next(_, _) if 8190 < self.counts.requests => Err(
+                        Refusal::ImpossibleRound,
+                    ),
+                    step => Ok(step),
+                },
         }
     }
 
