@@ -271,11 +271,11 @@ in_group = record { ended = groups.in_group.ended; routine = program groups-run.
 
 -- the start
 abbrev pub round_start : EntryPoint
-round_start = record { ended = rounds.Round.start.ended; routine = program rounds-run.Round.start.Symbol.name; promise = rounds.Round.start.clauses; refuses = 6 ∷ []; told = λ κs r. Rounds.told r; passed_back = λ κs e. e }
+round_start = record { ended = rounds.Round.start.ended; routine = program rounds-run.Round.start.Symbol.name; promise = rounds.Round.start.clauses; refuses = 6 ∷ []; told = λ κs r. told Rounds.step_values r; passed_back = λ κs e. e }
 
 -- a step
 abbrev pub round_answer : EntryPoint
-round_answer = record { ended = rounds.Round.answer.ended; routine = program rounds-run.Round.answer.Symbol.name; promise = rounds.Round.answer.clauses; refuses = 18 ∷ []; told = λ κs r. Rounds.told r; passed_back = λ κs e. e }
+round_answer = record { ended = rounds.Round.answer.ended; routine = program rounds-run.Round.answer.Symbol.name; promise = rounds.Round.answer.clauses; refuses = 18 ∷ []; told = λ κs r. told Rounds.step_values r; passed_back = λ κs e. e }
 
 -- the search over a lent set
 abbrev pub search_set : EntryPoint
