@@ -4,21 +4,14 @@
 mod skips;
 
 ghost use Rattle.std.specs.Prelude.{◌≡◌, true, false, [], ◌∷◌, ◌++◌, ◌+◌, ◌≤◌, ◌<◌, length, drop};
-ghost use Rattle.refusals.specs.Told.{gives, refusal};
+ghost use Rattle.refusals.specs.Told.{gives, refusal, told, single};
 ghost use Rattle.lists.specs.Values.{periods_of};
-ghost use Rattle.periods.specs.Period.{period_by, told_sent};
+ghost use Rattle.periods.specs.Period.{period_by};
 ghost use Rattle.periods.specs.Inside.{after, CycleHere, SplitHere, SubFits, PartSent, IsList, PeriodWords};
 
 use lists::{ListCheck, cycles_of, list_check, periods_of};
 use numbers::{read_numbers, sum_numbers};
 use refusals::Refusal;
-
-// How many words were written.
-#[derive(Clone, Copy)]
-pub enum Sent {
-    Words(usize),
-    Refused(Refusal),
-}
 
 // How many words of a cycle go out, and the place after the cycle.
 #[derive(Clone, Copy)]
@@ -120,35 +113,35 @@ fn period_words(list: &[u8], ms: u16, j: u16, out: &mut [u16]) -> usize
 }
 
 // Basic Period j of an accepted list: 12, then 4.
-fn send(list: &[u8], ms: u16, j: u16, out: &mut [u16]) -> Sent
+fn send(list: &[u8], ms: u16, j: u16, out: &mut [u16]) -> Result<usize, Refusal>
     requires { IsList list.now ms }
-    ensures { (told_sent result ≡ period_by list.now j (length out.old) refusal (λ ws. gives (length ws ∷ [])))
+    ensures { (told single result ≡ period_by list.now j (length out.old) refusal (λ ws. gives (length ws ∷ [])))
         × (out.new ≡ period_by list.now j (length out.old) (λ n. out.old) (λ ws. ws ++ drop (length ws) out.old)) }
 {
     if periods_of(ms) <= j as usize {
-        return Sent::Refused(Refusal::NoSuchPeriod);
+        return Err(Refusal::NoSuchPeriod);
     }
     if 64 <= out.len() {
         let all = period_words(list, ms, j, &mut out[..64]);
-        return Sent::Words(all);
+        return Ok(all);
     }
     let mut sent = [0u16; 64];
     let k = period_words(list, ms, j, &mut sent);
     if out.len() < k {
-        return Sent::Refused(Refusal::TooShort);
+        return Err(Refusal::TooShort);
     }
     put(&sent[..k], out);
-    Sent::Words(k)
+    Ok(k)
 }
 
 // The words of Basic Period j of a list, at the front of out.
-pub fn basic_period(list: &[u8], j: u16, out: &mut [u16]) -> Sent
-    ensures { (told_sent result ≡ period_by list.now j (length out.old) refusal (λ ws. gives (length ws ∷ [])))
+pub fn basic_period(list: &[u8], j: u16, out: &mut [u16]) -> Result<usize, Refusal>
+    ensures { (told single result ≡ period_by list.now j (length out.old) refusal (λ ws. gives (length ws ∷ [])))
         × (out.new ≡ period_by list.now j (length out.old) (λ n. out.old) (λ ws. ws ++ drop (length ws) out.old)) }
 {
     let c = list_check(list);
     match c {
-        ListCheck::Refused(n) => Sent::Refused(n),
+        ListCheck::Refused(n) => Err(n),
         ListCheck::Accepted(head, _) => {
             let ms = head.ms;
             send(list, ms, j, out)
