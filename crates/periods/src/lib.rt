@@ -24,10 +24,8 @@ fn put(src: &[u16], out: &mut [u16])
     requires { length src.now ≤ length out.old }
     ensures { out.new ≡ src.now ++ drop (length src.now) out.old }
 {
-    let mut i = 0;
-    while i < src.len() {
-        out[i] = src[i];
-        i += 1;
+    for (i, word) in src.iter().enumerate() {
+        out[i] = *word;
     }
 }
 
@@ -99,14 +97,12 @@ fn period_words(list: &[u8], ms: u16, j: u16, out: &mut [u16]) -> usize
     let header = sum_numbers(list, 0, 4);
     let mut p = header.next;
     let mut k: usize = 0;
-    let mut n: usize = 0;
     let mut size: u16 = 1;
-    while n < cycles {
+    for n in 0..cycles {
         let last = n + 1 == cycles;
         let c = put_subcycle(list, p, size, j % size, last, &mut out[k..]);
         k += c.many;
         p = c.next;
-        n += 1;
         size += size;
     }
     k
