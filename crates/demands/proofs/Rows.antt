@@ -11,6 +11,8 @@ use contract.Running.{within}
 use lib.ListN.{length-map}
 use denote.Ref.{at_last}
 use Rattle.refusals.proofs as refusals
+use Rattle.refusals.specs.Told.{single}
+use Rattle.refusals.proofs.Apart.{told_apart, singles_apart}
 use Rattle.refusals.proofs.Codes.{value_told, codes_apart}
 use Rattle.checks.specs.Bits.{bits_of}
 use Rattle.checks.specs.Check.{plain, check_bits, check_of as check_of_bytes}
@@ -39,9 +41,7 @@ use Rattle.numbers.proofs.Answers.{numbers_apart}
 use Rattle.lists.proofs as lists
 use Rattle.lists.proofs.Apart.{checks_apart}
 use Rattle.periods.proofs as periods
-use Rattle.periods.proofs.Apart.{sents_apart}
 use Rattle.list_text.proofs as texts
-use Rattle.list_text.proofs.Apart.{texts_apart}
 use Rattle.port_table.proofs as port-table
 use Rattle.ports.proofs as ports
 use Rattle.mvb.proofs as mvb
@@ -305,7 +305,7 @@ basic_period = record {
   promised = λ M 𝓤 𝓛 𝓜 𝓡. periods.basic_period.Met.met 𝓤 𝓛 𝓜 (within 𝓤 𝓛.H 𝓜 𝓡 program) has.periods_basic_period;
   says = said table.basic_period _ (λ M 𝓤 𝓛 mem run κs a. refl);
   refusing = λ κs a r ws c. told_so c.0 (λ e. ap (λ (x : List ℕ). (a.0, (a.1.0, (at_last a.1.1.0 x, tt)))) (c.1 ∙ e)) (file.basic_period_lem a.0.now a.1.0 a.1.1.0.now);
-  one = λ κs a r s ws vs c d. (sents_apart r s (c.0 ∙ sym d.0), ap (λ (x : List ℕ). (tt, (tt, (x, tt)))) (c.1 ∙ sym d.1));
+  one = λ κs a r s ws vs c d. (told_apart single singles_apart r s (c.0 ∙ sym d.0), ap (λ (x : List ℕ). (tt, (tt, (x, tt)))) (c.1 ∙ sym d.1));
 }
 
 pub list_text : Shown table.list_text
@@ -313,7 +313,7 @@ list_text = record {
   promised = λ M 𝓤 𝓛 𝓜 𝓡. texts.list_text.Met.met 𝓤 𝓛 𝓜 (within 𝓤 𝓛.H 𝓜 𝓡 program) has.list_text_list_text;
   says = said table.list_text _ (λ M 𝓤 𝓛 mem run κs a. refl);
   refusing = λ κs a r ws c. told_so c.0 (λ e. ap (λ (x : List ℕ). (a.0, (at_last a.1.0 x, tt))) (c.1 ∙ e)) (file.list_text_lem a.0.now a.1.0.now);
-  one = λ κs a r s ws vs c d. (texts_apart r s (c.0 ∙ sym d.0), ap (λ (x : List ℕ). (tt, (x, tt))) (c.1 ∙ sym d.1));
+  one = λ κs a r s ws vs c d. (told_apart single singles_apart r s (c.0 ∙ sym d.0), ap (λ (x : List ℕ). (tt, (x, tt))) (c.1 ∙ sym d.1));
 }
 
 pub mvb_list_check : Shown table.mvb_list_check

@@ -14,7 +14,7 @@ use denote.Triple.Entry.{Args, Res}
 use denote.Triple.Clauses.{Ended, AtExit, Clauses}
 use Rattle.refusals.specs.contracts as refusals
 use Rattle.refusals.proofs as refusals-run
-use Rattle.refusals.specs.Told.{Told, gives}
+use Rattle.refusals.specs.Told.{Told, gives, told, single}
 use Rattle.refusals.specs.Codes.{told_code}
 use Rattle.checks.specs.contracts as checks
 use Rattle.checks.proofs as checks-run
@@ -43,10 +43,8 @@ use Rattle.lists.proofs as lists-run
 use Rattle.lists.specs.Answers.{told_check}
 use Rattle.periods.specs.contracts as periods
 use Rattle.periods.proofs as periods-run
-use Rattle.periods.specs.Period.{told_sent}
 use Rattle.list_text.specs.contracts as texts
 use Rattle.list_text.proofs as texts-run
-use Rattle.list_text.specs.Text.{told_text}
 use Rattle.port_table.specs.contracts as port-table
 use Rattle.port_table.proofs as port-table-run
 use Rattle.ports.specs.contracts as ports
@@ -201,11 +199,11 @@ list_check = record { ended = lists.list_check.ended; routine = program lists-ru
 
 -- "all list refusals first, then 12, then 4"
 abbrev pub basic_period : EntryPoint
-basic_period = record { ended = periods.basic_period.ended; routine = program periods-run.basic_period.Symbol.name; promise = periods.basic_period.clauses; refuses = 12 ∷ 4 ∷ list_refusals; told = λ κs r. told_sent r; passed_back = λ κs e. e }
+basic_period = record { ended = periods.basic_period.ended; routine = program periods-run.basic_period.Symbol.name; promise = periods.basic_period.clauses; refuses = 12 ∷ 4 ∷ list_refusals; told = λ κs r. told single r; passed_back = λ κs e. e }
 
 -- the list program's text
 abbrev pub list_text : EntryPoint
-list_text = record { ended = texts.list_text.ended; routine = program texts-run.list_text.Symbol.name; promise = texts.list_text.clauses; refuses = 4 ∷ []; told = λ κs r. told_text r; passed_back = λ κs e. e }
+list_text = record { ended = texts.list_text.ended; routine = program texts-run.list_text.Symbol.name; promise = texts.list_text.clauses; refuses = 4 ∷ []; told = λ κs r. told single r; passed_back = λ κs e. e }
 
 -- whether a list is accepted, as C calls it
 abbrev pub mvb_list_check : EntryPoint

@@ -1,6 +1,6 @@
 -- Asking for a Basic Period: "all list refusals first, then 12, then 4" (document 01, "What a Basic Period sends").
 -- Assumes nothing.
-use Rattle.std.specs.Prelude.{ℕ, List, [], ◌∷◌, cond, ltb, leb, length}
+use Rattle.std.specs.Prelude.{ℕ, List, cond, ltb, leb, length}
 use Rattle.lists.specs.Values.{PeriodicList, periods_of}
 use Rattle.lists.specs.Reading.{Read, denied, took}
 use Rattle.lists.specs.Accepts.{accepted}
