@@ -9,7 +9,7 @@ use lib.Pow.{pow_mono}
 use lib.Seq.{drop_at}
 use Rattle.numbers.specs.Written.{written}
 use Rattle.numbers.proofs.WrittenLaws.{written_append}
-use Rattle.lists.specs.Values.{Cycle, PeriodicList, cycles_of}
+use Rattle.lists.specs.Values.{Cycle, PeriodicList, cycles_of, words_of}
 use Rattle.lists.specs.Sends.{subcycles}
 use Rattle.list_laws.specs.Written.{cycle_numbers, cycles_numbers, file, CycleObeys, CyclesObey, Obeys}
 use Rattle.lists.proofs.ListLaws.{cycles_most}
@@ -18,6 +18,8 @@ use Rattle.periods.specs.Inside.{CycleHere, IsList}
 use Rattle.periods.proofs.PeriodLaws.{obey_right}
 use Rattle.list_text.specs.Text.{subcycle_lines, cycle_lines}
 use Rattle.list_text.specs.Inside.{Few, Wrote, LinesPut, lines_of, CycleFew, CyclesHere, CyclesWrote}
+use Rattle.lists.proofs.SentLaws.{words_append}
+use Rattle.list_text.proofs.LengthLaws.{cycles_few}
 use Rattle.list_text.proofs.WroteLaws.{and_then, as_bytes, wrote_none}
 
 cycles_append : (n : ℕ) (cs ds : List Cycle) → cycle_lines n (cs ++ ds) ≡ cycle_lines n cs ++ cycle_lines (n + length cs) ds
@@ -99,15 +101,15 @@ module _ (s : List ℕ) (ms cycles p n size : ℕ) (at : Walk s ms cycles p n si
     all_are : at.known.l.cycles ≡ (at.done ++ next.c ∷ []) ++ next.later
     all_are = at.both ∙ ap (λ (x : List Cycle). at.done ++ x) next.is ∙ sym (append_assoc at.done (next.c ∷ []) next.later)
 
-    pub within : length (cycle_lines 0 at.done) + length (lines_of size next.c) ≤ length (cycle_lines 0 at.known.l.cycles)
-    within =
+    -- the words of the cycles before and of this one
+    pub words_within : length (words_of at.done) + length next.c.words ≤ length (words_of at.known.l.cycles)
+    words_within =
         omega (
           arith,
-          ap length one_more,
-          length-append (cycle_lines 0 at.done) (lines_of size next.c),
-          ap (λ (x : List Cycle). length (cycle_lines 0 x)) all_are,
-          ap length (cycles_append 0 (at.done ++ next.c ∷ []) next.later),
-          length-append (cycle_lines 0 (at.done ++ next.c ∷ [])) (cycle_lines (0 + length (at.done ++ next.c ∷ [])) next.later),
+          ap (λ (x : List Cycle). length (words_of x)) (at.both ∙ ap (λ (x : List Cycle). at.done ++ x) next.is),
+          ap length (words_append at.done (next.c ∷ next.later)),
+          length-append (words_of at.done) (words_of (next.c ∷ next.later)),
+          length-append next.c.words (words_of next.later),
         )
 
     abbrev walk_more : (p' : ℕ) → drop p' s ≡ written (cycles_numbers next.later) → Walk s ms cycles p' (n + 1) (size + size)
@@ -127,7 +129,7 @@ module _ (s : List ℕ) (ms cycles p n size : ℕ) (at : Walk s ms cycles p n si
 -- ---- writing
 pub record Writing (s : List ℕ) (ms cycles to : ℕ) (out₀ out : List ℕ) (p q n size : ℕ) : Type 0 where
   pub at : Walk s ms cycles p n size
-  pub few : Few to (length (cycle_lines 0 at.known.l.cycles))
+  pub few : Few to (length (words_of at.known.l.cycles))
   pub long : length out ≡ length out₀
   pub wrote : Wrote to (cycle_lines 0 at.done) out₀ out q
 
@@ -144,7 +146,13 @@ module _ (s : List ℕ) (ms cycles to : ℕ) (out₀ : List ℕ) where
       next_few =
           record {
             here = cycle_here s ms cycles p n size inv.at h;
-            few = omega (arith, inv.few, inv.wrote.next, within s ms cycles p n size inv.at h);
+            few = omega (
+              arith,
+              inv.few,
+              inv.wrote.next,
+              cycles_few 0 inv.at.done,
+              words_within s ms cycles p n size inv.at h,
+            );
           }
 
       pub writing_more : (out' : List ℕ) (q' p' : ℕ) → LinesPut s q (lines_of size next_few.here.c) next_few.here.rest out out' q' p' → length out' ≡ length out

@@ -4,6 +4,7 @@ use Prim.Native.Nat.{ℕ, suc, ◌*◌, ◌^◌, ◌≤◌}
 use mathlib.Core.List.{List, [], ◌∷◌}
 use native.Mathlib.Omega.{arith}
 use lib.ListN.{length, take, drop, length-append, length-take, length-drop}
+use Rattle.numbers.specs.Number.{sum}
 use Rattle.lists.specs.Values.{Cycle, words_of}
 use Rattle.lists.specs.Sends.{cut_by, subcycles}
 use Rattle.list_text.specs.Text.{space, newline, word_line, word_lines, subcycle_lines, cycle_lines}
@@ -12,9 +13,14 @@ use Rattle.list_text.proofs.LineLaws.{decimal_few, field_length, line_length}
 line_few : (cycle sub w : ℕ) → length (word_line cycle sub w) ≤ 15
 line_few cycle sub w = omega (arith, line_length cycle sub w, field_length cycle space, field_length sub newline, decimal_few cycle, decimal_few sub)
 
-lines_few : (cycle sub : ℕ) (ws : List ℕ) → length (word_lines cycle sub ws) ≤ 15 * length ws
+pub lines_few : (cycle sub : ℕ) (ws : List ℕ) → length (word_lines cycle sub ws) ≤ 15 * length ws
 lines_few cycle sub [] = omega arith
 lines_few cycle sub (w ∷ ws) = omega (arith, length-append (word_line cycle sub w) (word_lines cycle sub ws), line_few cycle sub w, lines_few cycle sub ws)
+
+pub sum_few : (cycle sub : ℕ) (ws zs : List ℕ) → length (subcycle_lines cycle sub (cut_by ws zs)) ≤ 15 * sum zs
+sum_few cycle sub ws [] = omega arith
+sum_few cycle sub ws (z ∷ zs) =
+    omega (arith, length-append (word_lines cycle sub (take z ws)) (subcycle_lines cycle (suc sub) (cut_by (drop z ws) zs)), lines_few cycle sub (take z ws), sum_few cycle (suc sub) (drop z ws) zs, length-take z ws)
 
 cut_few : (cycle sub : ℕ) (ws zs : List ℕ) → length (subcycle_lines cycle sub (cut_by ws zs)) ≤ 15 * length ws
 cut_few cycle sub ws [] = omega arith

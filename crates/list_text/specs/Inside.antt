@@ -1,13 +1,13 @@
 -- What the functions inside this crate promise each other.
 -- Assumes nothing.
-use Rattle.std.specs.Prelude.{ℕ, ◌+◌, ◌/◌, ◌%◌, ◌≤◌, ◌≡◌, List, [], ◌∷◌, ◌++◌, cond, leb, length, take, drop}
+use Rattle.std.specs.Prelude.{ℕ, ◌+◌, ◌*◌, ◌/◌, ◌%◌, ◌≤◌, ◌≡◌, List, [], ◌∷◌, ◌++◌, cond, leb, length, take, drop}
 use Rattle.lists.specs.declared.Header.{Header}
 use Rattle.numbers.specs.Written.{written, Most}
 use Rattle.lists.specs.Values.{Cycle, PeriodicList, words_of}
 use Rattle.lists.specs.Sends.{subcycles}
 use Rattle.lists.specs.Reading.{took}
 use Rattle.list_laws.specs.Written.{Obeys, file}
-use Rattle.list_text.specs.Text.{digit, word_lines, subcycle_lines, cycle_lines, text_of}
+use Rattle.list_text.specs.Text.{digit, subcycle_lines, cycle_lines, text_of}
 use Rattle.periods.specs.Inside.{CycleHere, SplitHere, IsList}
 
 -- the digit of a number that counts units of this size; none where the number is smaller
@@ -23,18 +23,18 @@ pub record Wrote (at : ℕ) (bytes out out' : List ℕ) (r : ℕ) : Type 0 where
   pub next : r ≡ at + length bytes
   pub out_is : r ≤ length out → out' ≡ wrote_at at bytes out
 
--- the place after n bytes more
+-- so many lines more, of at most 15 bytes each, end below a place that no text reaches
 abbrev pub Few : ℕ → ℕ → Type 0
-Few at n = at + n ≤ 100000
+Few at lines = at + 15 * lines ≤ 100000
 
--- so many words stand at a place, then other bytes; their lines are no more bytes than a text can have
-pub record WordsHere (s : List ℕ) (at many cycle sub to : ℕ) : Type 0 where
+-- so many words stand at a place, then other bytes
+pub record WordsHere (s : List ℕ) (at many to : ℕ) : Type 0 where
   pub words : List ℕ
   pub rest : List ℕ
   pub long : length words ≡ many
   pub most : Most words
   pub bytes : drop at s ≡ written words ++ rest
-  pub few : Few to (length (word_lines cycle sub words))
+  pub few : Few to many
 
 -- some lines were written, and the list was read as far as the bytes after them
 abbrev pub LinesPut : List ℕ → ℕ → List ℕ → List ℕ → List ℕ → List ℕ → ℕ → ℕ → Type 0
@@ -44,20 +44,20 @@ LinesPut s to lines rest out out' r next = Wrote to lines out out' r × (drop ne
 abbrev pub lines_of : ℕ → Cycle → List ℕ
 lines_of size c = subcycle_lines size 0 (subcycles c.words c.splits)
 
--- a cycle with split numbers stands at a place, after its count, and its lines are few
+-- a cycle with split numbers stands at a place, after its count
 pub record SplitFew (s : List ℕ) (at count size to : ℕ) : Type 0 where
   pub here : SplitHere s at count size
-  pub few : Few to (length (lines_of size here.c))
+  pub few : Few to count
 
 -- the same of any cycle
 pub record CycleFew (s : List ℕ) (at size to : ℕ) : Type 0 where
   pub here : CycleHere s at size
-  pub few : Few to (length (lines_of size here.c))
+  pub few : Few to (length here.c.words)
 
--- the bytes are the file of a list that obeys the rules, and its cycles' lines are few
+-- the bytes are the file of a list that obeys the rules
 pub record CyclesHere (s : List ℕ) (ms at : ℕ) : Type 0 where
   pub known : IsList s ms
-  pub few : Few at (length (cycle_lines 0 known.l.cycles))
+  pub few : Few at (length (words_of known.l.cycles))
 
 -- the lines of all cycles of the list in these bytes were written
 abbrev pub CyclesWrote : List ℕ → ℕ → List ℕ → List ℕ → ℕ → Type 0

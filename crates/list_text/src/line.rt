@@ -1,7 +1,7 @@
 // A line of the text, in bytes of its own until it is whole.
 ghost use Rattle.std.specs.Prelude.{◌≡◌, [], ◌∷◌, ◌++◌, ◌+◌, ◌≤◌, ◌<◌, length};
 ghost use Rattle.list_text.specs.Text.{digit, decimal, hex, field, header_line, word_line, refused_line};
-ghost use Rattle.list_text.specs.Inside.{place, Few, Wrote};
+ghost use Rattle.list_text.specs.Inside.{place, Wrote};
 
 use lists::Header;
 use std::marker::Model;
@@ -143,7 +143,7 @@ impl Line {
 
     // The line at a place, where there is room for it; the answer is the place after it.
     pub(crate) fn put(&self, out: &mut [u8], at: usize) -> usize
-        requires { Few at (length self.now) }
+        requires { at ≤ 100000 }
         ensures { Wrote at self.now out.old out.new result }
     {
         let end = at + self.many;

@@ -2,7 +2,7 @@
 -- Assumes nothing.
 use native.Mathlib.Omega.{arith}
 use Rattle.list_text.proofs.WroteLaws.{as_bytes}
-use Rattle.list_text.proofs.LinesLaws.{lines_start, lines_end, word_small, next_few, lines_more}
+use Rattle.list_text.proofs.LinesLaws.{lines_start, lines_end, place_few, word_small, lines_more}
 use Rattle.list_text.proofs.lines.put_words.Goals as goal
 
 pub loop-i-init : goal.loop-i-init
@@ -16,7 +16,7 @@ overflow_cast-word c = let a = c.args in
 pub put-q-requires : goal.put-q-requires
 put-q-requires c = let a = c.args in
     let h = c.requires.2 in
-    rw c.of_word.ensures (next_few a.list.now a.at a.many a.cycle a.sub a.to a.out.now h _ _ _ _ (c.loop-i.invariant h) c.loop-i-test.true _ _ c.sum_numbers-word.ensures)
+    place_few a.list.now a.at a.many a.cycle a.sub a.to a.out.now h _ _ _ _ (c.loop-i.invariant h) (c.loop-i.auto.i-end)
 
 pub loop-i-preserved : goal.loop-i-preserved
 loop-i-preserved c h = let a = c.args in
