@@ -187,11 +187,6 @@ module _ (s : List ℕ) (ms j cycles : ℕ) (out₀ : List ℕ) where
       unfolding c later
       cycle_here = record { n = n; c = next.c; rest = written (cycles_numbers next.later); small = small_n; power = inv.power; obeys = next.obeys; bytes = bytes_here }
 
-      -- nothing follows the last cycle
-      pub last_here : n + 1 ≡ cycles → cycle_here.rest ≡ []
-      unfolding cycle_here
-      last_here e = ap (λ (x : List Cycle). written (cycles_numbers x)) (nothing_left next.later (omega (arith, all_of, inv.many, ap length next.is)))
-
       pub sub-fits : SubFits cycle_here.c size (j % size) (length (take (length out - k) (drop k out)))
       unfolding c cycle_here
       sub-fits = (mod-lt j (omega (arith, inv.power, pow_pos n)), omega (arith, room_left, ap length sub_is, ap length rest-is, length-drop k out, inv.long))

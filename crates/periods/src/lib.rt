@@ -29,16 +29,6 @@ fn put(src: &[u16], out: &mut [u16])
     }
 }
 
-// The place after so many numbers; behind the last cycle, the list's end.
-fn place_after(list: &[u8], at: usize, left: u16, last: bool) -> usize
-    ensures { (last ≡ true → result ≡ length list.now) × (last ≡ false → result ≡ at + after left (drop at list.now)) }
-{
-    if last {
-        return list.len();
-    }
-    skips::skip(list, at, left)
-}
-
 // Subcycle sub of a cycle with split numbers, whose words start at a place: the words are passed over, the split numbers
 // added up, and the words of the Subcycle read.
 fn put_split(
@@ -47,27 +37,26 @@ fn put_split(
     count: u16,
     size: u16,
     sub: u16,
-    last: bool,
     out: &mut [u16],
 ) -> Part
     requires { (h : SplitHere list.now at count size) × SubFits h.c size sub (length out.old) }
-    ensures { (h : SplitHere list.now at count size) → (last ≡ true → h.rest ≡ []) → SubFits h.c size sub (length out.old)
+    ensures { (h : SplitHere list.now at count size) → SubFits h.c size sub (length out.old)
         → PartSent list.now h.c sub h.rest out.old out.new result.many result.next }
 {
     let words = skips::skip(list, at, count);
     let before = sum_numbers(list, words, sub);
     let here = sum_numbers(list, before.next, 1);
-    let next = place_after(list, here.next, size - sub - 1, last);
+    let next = skips::skip(list, here.next, size - sub - 1);
     let first = skips::skip(list, at, before.total as u16);
     let many = here.total;
     read_numbers(list, first, &mut out[..many]);
     Part { many, next }
 }
 
-// Subcycle sub of the cycle at a place, with so many Subcycles, perhaps the last: its words at the front of out.
-fn put_subcycle(list: &[u8], at: usize, size: u16, sub: u16, last: bool, out: &mut [u16]) -> Part
+// Subcycle sub of the cycle at a place, with so many Subcycles: its words at the front of out.
+fn put_subcycle(list: &[u8], at: usize, size: u16, sub: u16, out: &mut [u16]) -> Part
     requires { (h : CycleHere list.now at size) × SubFits h.c size sub (length out.old) }
-    ensures { (h : CycleHere list.now at size) → (last ≡ true → h.rest ≡ []) → SubFits h.c size sub (length out.old)
+    ensures { (h : CycleHere list.now at size) → SubFits h.c size sub (length out.old)
         → PartSent list.now h.c sub h.rest out.old out.new result.many result.next }
 {
     let c = sum_numbers(list, at, 1);
@@ -85,7 +74,7 @@ fn put_subcycle(list: &[u8], at: usize, size: u16, sub: u16, last: bool, out: &m
             next: c.next,
         };
     }
-    put_split(list, c.next, count as u16, size, sub, last, out)
+    put_split(list, c.next, count as u16, size, sub, out)
 }
 
 // The words of Basic Period j of an accepted list, at the front of out: how many.
@@ -99,8 +88,7 @@ fn period_words(list: &[u8], ms: u16, j: u16, out: &mut [u16]) -> usize
     let mut k: usize = 0;
     let mut size: u16 = 1;
     for n in 0..cycles {
-        let last = n + 1 == cycles;
-        let c = put_subcycle(list, p, size, j % size, last, &mut out[k..]);
+        let c = put_subcycle(list, p, size, j % size, &mut out[k..]);
         k += c.many;
         p = c.next;
         size += size;
