@@ -1,7 +1,7 @@
 -- What the functions inside this crate promise each other.
 -- Assumes nothing.
 use Rattle.std.specs.Prelude.{ℕ, ◌+◌, ◌*◌, ◌/◌, ◌%◌, ◌≤◌, ◌≡◌, List, [], ◌∷◌, ◌++◌, cond, leb, length, take, drop}
-use Rattle.lists.specs.declared.Header.{Header}
+use Rattle.lists.specs.declared.Accepted.{Accepted}
 use Rattle.numbers.specs.Written.{written, Most}
 use Rattle.lists.specs.Values.{Cycle, PeriodicList, words_of}
 use Rattle.lists.specs.Sends.{subcycles}
@@ -64,11 +64,11 @@ abbrev pub CyclesWrote : List ℕ → ℕ → List ℕ → List ℕ → ℕ → 
 CyclesWrote s at out out' r = (l : PeriodicList) → Obeys l → file l ≡ s → Wrote at (cycle_lines 0 l.cycles) out out' r
 
 -- the bytes are the file of a list that obeys the rules, with this header and so many words
-pub record ListHere (s : List ℕ) (h : Header) (words : ℕ) : Type 0 where
-  pub known : IsList s h.ms
-  pub gap : h.gap ≡ known.l.head.gap
-  pub reserve : h.reserve ≡ known.l.head.reserve
-  pub count : words ≡ length (words_of known.l.cycles)
+pub record ListHere (s : List ℕ) (a : Accepted) : Type 0 where
+  pub known : IsList s a.header.ms
+  pub gap : a.header.gap ≡ known.l.head.gap
+  pub reserve : a.header.reserve ≡ known.l.head.reserve
+  pub count : a.words ≡ length (words_of known.l.cycles)
 
 -- the whole text of the list in these bytes was written
 abbrev pub TextWrote : List ℕ → List ℕ → List ℕ → ℕ → Type 0
