@@ -1,8 +1,9 @@
 -- `put_cycles` meets its promise: its loop by `CyclesLaws`.
 -- Assumes nothing.
 use native.Mathlib.Omega.{arith}
+use Rattle.periods.proofs.WalkLaws.{size_small}
 use Rattle.periods.proofs.PeriodLaws.{after_header_lem}
-use Rattle.list_text.proofs.CyclesLaws.{writing_start, writing_end, size_small, next_few, writing_more}
+use Rattle.list_text.proofs.CyclesLaws.{writing_start, writing_end, next_few, writing_more}
 use Rattle.list_text.proofs.lines.put_cycles.Goals as goal
 
 pub loop-n-init : goal.loop-n-init
