@@ -78,9 +78,6 @@ module _ (s : List ℕ) (ms j cycles : ℕ) (out₀ : List ℕ) where
       pub size_fits : size + size ≤ 2048
       size_fits = omega (arith, size_small s ms cycles p n size inv.at h)
 
-      pub size_some : (size ≡ 0 → ⊥)
-      size_some e = omega (arith, inv.at.power, pow_pos n)
-
       c : Cycle
       c = (next s ms cycles p n size inv.at h).c
 
@@ -97,9 +94,6 @@ module _ (s : List ℕ) (ms j cycles : ℕ) (out₀ : List ℕ) where
       few_sent : length (sends l j) ≤ 64
       unfolding l
       few_sent = inv.at.known.obeys.frames j (subst (λ (x : ℕ). j < periods_of x) inv.at.known.same inv.here)
-
-      pub k_room : k ≤ length out
-      k_room = omega (arith, inv.count, inv.long, ap length all_sent, few_sent, length-append (sent_from 0 j inv.at.done) (subcycle c (j % 2 ^ n) ++ sent_from (suc n) j later))
 
       room_left : k + length (subcycle c (j % 2 ^ n)) ≤ 64
       room_left =
@@ -202,9 +196,6 @@ module _ (s : List ℕ) (ms j : ℕ) (out : List ℕ) (k : IsList s ms) where
 
     words : take m sent ≡ sends k.l j
     words = ap (take m) (w k.l k.obeys k.written_so).1 ∙ take_at (sends k.l j) (drop m sent₀) m (sym count)
-
-    pub m_most : length sent ≡ 64 → m ≤ length sent
-    m_most e = omega (arith, count, k.obeys.frames j (omega (arith, ap periods_of k.same)))
 
     -- where sent is the front of out
     pub send_straight : 64 ≤ length out → sent₀ ≡ take 64 out → Answer s j out (gives (m ∷ [])) (sent ++ drop 64 out)

@@ -5,4 +5,6 @@ use Rattle.list_text.proofs.LinesLaws.{Lines}
 use Rattle.list_text.proofs.lines.put_words.Given as goal
 
 abbrev pub invariant-loop-i : goal.invariant-loop-i
-invariant-loop-i l = (h : WordsHere l.list l.at l.many l.to) → Lines l.list l.at l.many l.cycle l.sub l.to l.initial.out l.out l.p l.q l.i h
+invariant-loop-i l =
+    (h : WordsHere l.list l.initial.places.read l.many l.initial.places.written)
+    → Lines l.list l.initial.places.read l.many l.cycle l.sub l.initial.places.written l.initial.out l.out l.places.read l.places.written l.i h
