@@ -12,10 +12,9 @@ use lib.ListN.{length, get_or, take, drop, length-append, length-drop, drop_of_l
 use borrow.Rule.Slice.PartMut.{put_mid, same_len_mid}
 use lib.Pow.{pow_pos, pow_mono}
 use lib.Seq.{drop-append-le, take_all, take_at, drop-append_seam, drop-drop, length-take-le}
-use Rattle.std.specs.Prelude.{Result, Ok, Err}
 use Rattle.refusals.specs.declared.Refusal.{Refusal}
 use Rattle.refusals.specs.Refusals.{number_of}
-use Rattle.refusals.specs.Told.{Told, gives, refusing, refusal, told}
+use Rattle.refusals.specs.Told.{Told, gives, refusing, refusal}
 use Rattle.numbers.specs.Written.{written, Bytes, Most}
 use Rattle.numbers.proofs.RunLaws.{Added}
 use Rattle.numbers.proofs.WrittenLaws.{written_append}
@@ -226,7 +225,7 @@ module _ (s : List ℕ) (ms j : ℕ) (out : List ℕ) (k : IsList s ms) where
         let b : leb (length (sends k.l j)) (length out) ≡ true = le-leb (length (sends k.l j)) (length out) (omega (arith, count)) in
         (rw (a, here, b) (ap (λ (x : ℕ). gives (x ∷ [])) count), rw (a, here, b) (q ∙ ap (λ (x : List ℕ). x ++ drop (length x) out) words))
 
-pub told_no : (r : Read PeriodicList) (m : Refusal) → refusing m ≡ told_read r → r ≡ denied (number_of m)
+told_no : (r : Read PeriodicList) (m : Refusal) → refusing m ≡ told_read r → r ≡ denied (number_of m)
 told_no (denied n) m e = ap denied (cc)
 told_no (took l rest) m e = let z : ◌≡◌ {A = ℕ} 0 1 = cc in absurd (omega arith)
 
@@ -238,15 +237,14 @@ pub bytes_from : (s : List ℕ) → ((i : ℕ) → get_or s i 0 < 256) → Bytes
 bytes_from [] h = tt
 bytes_from (b ∷ s) h = (h 0, bytes_from s (λ i. h (suc i)))
 
-module _ (s : List ℕ) (r : Result Accepted Refusal) (t : told header_and_words r ≡ told_read (accepted s)) where
-  pub list_refused : (m : Refusal) → r ≡ Err m → (j : ℕ) (out : List ℕ) → Answer s j out (refusing m) out
-  unfolding period_by
-  list_refused m e j out =
-      let n : accepted s ≡ denied (number_of m) = told_no (accepted s) m (sym (ap (told header_and_words) e) ∙ t) in
-      (rw n, rw n)
+pub list_refused : (s : List ℕ) (m : Refusal) → refusing m ≡ told_read (accepted s) → (j : ℕ) (out : List ℕ) → Answer s j out (refusing m) out
+unfolding period_by
+list_refused s m t j out =
+    let n : accepted s ≡ denied (number_of m) = told_no (accepted s) m t in
+    (rw n, rw n)
 
-  pub is_list : Bytes s → (a : Accepted) → r ≡ Ok a → IsList s a.header.ms
-  is_list k a e =
-      let u = told_yes (accepted s) a (sym (ap (told header_and_words) e) ∙ t) in
-      let o = accepted_obeys s u.0 u.1 k u.2 in
-      record { l = u.0; obeys = o.0; written_so = o.1; same = u.3 }
+pub is_list : (s : List ℕ) → Bytes s → (a : Accepted) → gives (header_and_words a) ≡ told_read (accepted s) → IsList s a.header.ms
+is_list s k a t =
+    let u = told_yes (accepted s) a t in
+    let o = accepted_obeys s u.0 u.1 k u.2 in
+    record { l = u.0; obeys = o.0; written_so = o.1; same = u.3 }
