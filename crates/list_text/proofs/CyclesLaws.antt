@@ -6,12 +6,11 @@ use mathlib.Core.List.{List, [], ◌∷◌, ◌++◌, append_assoc, append-nil}
 use native.Mathlib.Omega.{arith}
 use lib.ListN.{length, drop, length-append}
 use Rattle.numbers.specs.Written.{written}
-use Rattle.lists.specs.Values.{Cycle, PeriodicList, cycles_of, words_of}
+use Rattle.lists.specs.Values.{Cycle, cycles_of, words_of}
 use Rattle.lists.specs.Sends.{subcycles}
 use Rattle.list_laws.specs.Written.{cycles_numbers}
 use Rattle.lists.proofs.SentLaws.{words_append}
-use Rattle.periods.specs.Inside.{CycleHere}
-use Rattle.periods.proofs.WalkLaws.{Walk, walk_start, walk_more, all_done, Next, next, cycle_here}
+use Rattle.periods.proofs.WalkLaws.{Walk, walk_start, walk_more, all_done, next, cycle_here}
 use Rattle.list_text.specs.Text.{subcycle_lines, cycle_lines}
 use Rattle.list_text.specs.Inside.{Few, Wrote, LinesPut, lines_of, CycleFew, CyclesHere, CyclesWrote}
 use Rattle.list_text.proofs.LengthLaws.{cycles_few}

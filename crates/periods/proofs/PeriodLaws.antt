@@ -8,10 +8,10 @@ use native.Mathlib.Nat.{mod-lt}
 use native.Mathlib.Omega.{arith}
 use borrow.Author.Tests.{lt-ltb, le-ltb, le-leb, lt-leb}
 use lib.Dec.{ltb, leb}
-use lib.ListN.{length, get_or, take, drop, length-append, length-drop, drop_of_length-le, take-append-drop}
+use lib.ListN.{length, get_or, take, drop, length-append, length-drop, drop_of_length-le}
 use borrow.Rule.Slice.PartMut.{put_mid, same_len_mid}
-use lib.Pow.{pow_pos, pow_mono}
-use lib.Seq.{drop-append-le, take_all, take_at, drop-append_seam, drop-drop, length-take-le}
+use lib.Pow.{pow_pos}
+use lib.Seq.{take_all, take_at, drop-append_seam, drop-drop}
 use Rattle.refusals.specs.declared.Refusal.{Refusal}
 use Rattle.refusals.specs.Refusals.{number_of}
 use Rattle.refusals.specs.Told.{Told, gives, refusing, refusal}
@@ -25,13 +25,12 @@ use Rattle.lists.specs.Reading.{Read, denied, took}
 use Rattle.lists.specs.Sends.{subcycle, sent_from, sends}
 use Rattle.lists.specs.Accepts.{accepted}
 use Rattle.lists.specs.Answers.{header_and_words, told_read}
-use Rattle.list_laws.specs.Written.{cycle_numbers, cycles_numbers, CycleObeys, CyclesObey, Obeys}
+use Rattle.list_laws.specs.Written.{cycles_numbers, Obeys}
 use Rattle.lists.proofs.SentLaws.{sent_snoc}
-use Rattle.lists.proofs.ListLaws.{cycles_most}
-use Rattle.list_laws.proofs.Acceptance.{accepted_obeys, obeys_accepted, one_list}
-use Rattle.periods.proofs.WalkLaws.{Walk, walk_start, walk_more, all_done, size_small, Next, next, cycle_here}
+use Rattle.list_laws.proofs.Acceptance.{accepted_obeys, obeys_accepted}
+use Rattle.periods.proofs.WalkLaws.{Walk, walk_start, walk_more, all_done, size_small, next, cycle_here}
 use Rattle.periods.specs.Period.{period_by}
-use Rattle.periods.specs.Inside.{CycleHere, SubFits, PartSent, IsList, PeriodWords}
+use Rattle.periods.specs.Inside.{SubFits, PartSent, IsList, PeriodWords}
 
 pub sent_append : (cs ds : List Cycle) (m j : ℕ) → sent_from m j (cs ++ ds) ≡ sent_from m j cs ++ sent_from (m + length cs) j ds
 sent_append [] ds m j = let e : m ≡ m + 0 = omega arith in ap (λ (k : ℕ). sent_from k j ds) e
@@ -195,21 +194,6 @@ module _ (s : List ℕ) (ms j : ℕ) (out : List ℕ) (k : IsList s ms) where
 
     words : take m sent ≡ sends k.l j
     words = ap (take m) (w k.l k.obeys k.written_so).1 ∙ take_at (sends k.l j) (drop m sent₀) m (sym count)
-
-    -- where sent is the front of out
-    pub send_straight : 64 ≤ length out → sent₀ ≡ take 64 out → Answer s j out (gives (m ∷ [])) (sent ++ drop 64 out)
-    unfolding period_by
-    send_straight l q =
-        let a : accepted s ≡ took k.l [] = list_is_read s ms k in
-        let f : length (sends k.l j) ≤ 64 = k.obeys.frames j (omega (arith, ap periods_of k.same)) in
-        let b : leb (length (sends k.l j)) (length out) ≡ true = le-leb (length (sends k.l j)) (length out) (omega arith) in
-        let n : length (take 64 out) ≡ 64 = length-take-le 64 out l in
-        let d : drop m sent₀ ++ drop 64 out ≡ drop m out =
-        ap (λ (x : List ℕ). drop m x ++ drop 64 out) q ∙ sym (drop-append-le m (take 64 out) (drop 64 out) (omega (arith, count))) ∙ ap (drop m) (take-append-drop 64 out) in
-        let e : sent ++ drop 64 out ≡ sends k.l j ++ drop (length (sends k.l j)) out =
-        ap (λ (x : List ℕ). x ++ drop 64 out) (w k.l k.obeys k.written_so).1 ∙ append_assoc (sends k.l j) (drop m sent₀) (drop 64 out)
-        ∙ ap (λ (x : List ℕ). sends k.l j ++ x) d ∙ ap (λ (x : ℕ). sends k.l j ++ drop x out) count in
-        (rw (a, here, b) (ap (λ (x : ℕ). gives (x ∷ [])) count), rw (a, here, b) e)
 
     pub send_4 : length out < m → Answer s j out (refusal 4) out
     unfolding period_by

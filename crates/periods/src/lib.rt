@@ -20,6 +20,7 @@ struct Part {
     next: usize,
 }
 
+// Words to the front of others: std's copy is no part of this program, and the list's text copies bytes.
 fn put(src: &[u16], out: &mut [u16])
     requires { length src.now ≤ length out.old }
     ensures { out.new ≡ src.now ++ drop (length src.now) out.old }
@@ -31,14 +32,7 @@ fn put(src: &[u16], out: &mut [u16])
 
 // Subcycle sub of a cycle with split numbers, whose words start at a place: the words are passed over, the split numbers
 // added up, and the words of the Subcycle read.
-fn put_split(
-    list: &[u8],
-    at: usize,
-    count: u16,
-    size: u16,
-    sub: u16,
-    out: &mut [u16],
-) -> Part
+fn put_split(list: &[u8], at: usize, count: u16, size: u16, sub: u16, out: &mut [u16]) -> Part
     requires { (h : SplitHere list.now at count size) × SubFits h.c size sub (length out.old) }
     ensures { (h : SplitHere list.now at count size) → SubFits h.c size sub (length out.old)
         → PartSent list.now h.c sub h.rest out.old out.new result.many result.next }
@@ -77,7 +71,8 @@ fn put_subcycle(list: &[u8], at: usize, size: u16, sub: u16, out: &mut [u16]) ->
     put_split(list, c.next, count as u16, size, sub, out)
 }
 
-// The words of Basic Period j of an accepted list, at the front of out: how many.
+// The words of Basic Period j of an accepted list, at the front of out: how many. The list's text walks the cycles too; a
+// walk for both would be public, with a promise on any bytes.
 fn period_words(list: &[u8], ms: u16, j: u16, out: &mut [u16]) -> usize
     requires { IsList list.now ms × (j < periods_of ms) × (length out.old ≡ 64) }
     ensures { PeriodWords list.now j result out.old out.new }
@@ -104,10 +99,6 @@ fn send(list: &[u8], ms: u16, j: u16, out: &mut [u16]) -> Result<usize, Refusal>
 {
     if periods_of(ms) <= j as usize {
         return Err(Refusal::NoSuchPeriod);
-    }
-    if 64 <= out.len() {
-        let all = period_words(list, ms, j, &mut out[..64]);
-        return Ok(all);
     }
     let mut sent = [0u16; 64];
     let k = period_words(list, ms, j, &mut sent);
