@@ -39,7 +39,7 @@ use Rattle.numbers.specs.declared.Reader.{Reader}
 use Rattle.numbers.specs.declared.Run.{Run}
 use Rattle.numbers.specs.declared.Summed.{Summed}
 use Rattle.numbers.proofs as numbers
-use Rattle.numbers.specs.Number.{number_at}
+use Rattle.numbers.specs.Number.{number_at as number_there}
 use Rattle.numbers.specs.Answers.{value_and_place, value_then}
 use Rattle.numbers.proofs.Answers.{values_apart}
 use Rattle.lists.proofs as lists
@@ -78,7 +78,7 @@ reader_is : {r s : Reader} → r.src ≡ s.src → r.at ≡ s.at → r ≡ s
 reader_is e f i = record { src = e i; at = f i }
 
 -- what a reader's next number tells is a refusal, after which it stands where it stood, or no refusal
-next_refuses : {X : Type 0} (back : Reader → X) (r : Result ℕ Refusal) (old new : Reader) → told (value_then new.at) r ≡ number_at old.src.now old.at → new.src ≡ old.src
+next_refuses : {X : Type 0} (back : Reader → X) (r : Result ℕ Refusal) (old new : Reader) → told (value_then new.at) r ≡ number_there old.src.now old.at → new.src ≡ old.src
     → OnErr r (new.at ≡ old.at) → Refusing (5 ∷ []) (told single r) (back new ≡ back old)
 next_refuses back (Ok value) old new c b e = answers _
 next_refuses back (Err refusal) old new c b e = told_so c (λ u. ap back (reader_is b e)) (file.number old.src.now old.at)
