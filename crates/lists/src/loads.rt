@@ -57,6 +57,10 @@ fn add_parts(
             Ok(count) => count as usize,
             Err(refusal) => return Err(refusal),
         };
+        // Most Subcycles have no words.
+        if count == 0 {
+            continue;
+        }
         *load += weights.sum(part(words, total, count));
         total += count;
     }

@@ -2,7 +2,7 @@
 -- Assumes nothing.
 use Rattle.std.proofs.Common.{◌≤◌, ℕ, length, length-take, arith}
 use Rattle.lists.proofs.WordLaws.{weigh_few}
-use Rattle.lists.proofs.SplitLaws.{splits_stop, splits_wrong, splits_end, splits_next}
+use Rattle.lists.proofs.SplitLaws.{splits_stop, splits_wrong, splits_end, splits_next, splits_none}
 use Rattle.lists.proofs.loads.add_parts.Goals as goal
 
 pub returns-in-Err : goal.returns-in-Err
@@ -12,6 +12,12 @@ pub overflow_add-load : goal.overflow_add-load
 overflow_add-load c =
     let short : length c.part.result.now ≤ 256 = rw c.part.ensures (omega (arith, length-take {A = ℕ}, c.in-Ok.ensures.range)) in
     record { fits = omega (arith, c.sum.ensures, weigh_few c.args.weights.now.by_f_code c.part.result.now c.args.weights.now.most, c.requires.small.at c.loop-load.load-index, c.loop-load.invariant.so_far.rest c.loop-load.load-index (omega arith)) }
+
+pub loop-load-preserved-then-count-eq0 : goal.loop-load-preserved-then-count-eq0
+loop-load-preserved-then-count-eq0 c = record {
+  few = omega arith;
+  so_far = splits_none _ _ _ _ _ _ _ _ c.loop-load.invariant.so_far (omega arith) _ _ c.in-Ok.ensures.read c.if-count-eq0.true;
+}
 
 pub loop-load-preserved : goal.loop-load-preserved
 loop-load-preserved c = record {
