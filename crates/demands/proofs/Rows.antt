@@ -13,10 +13,8 @@ use denote.Ref.{at_last}
 use Rattle.std.specs.Prelude.{Result, Ok, Err, OnErr}
 use Rattle.refusals.specs.declared.Refusal.{Refusal}
 use Rattle.refusals.specs.Told.{told, single}
-use Rattle.refusals.proofs.Apart.{told_apart, singles_apart, never_both, refusals_apart}
+use Rattle.refusals.proofs.Apart.{numbers_told_apart, never_both, refusals_apart}
 use Rattle.refusals.proofs as refusals
-use Rattle.refusals.specs.Told.{single}
-use Rattle.refusals.proofs.Apart.{told_apart, singles_apart}
 use Rattle.refusals.proofs.Codes.{value_told, codes_apart}
 use Rattle.checks.specs.Bits.{bits_of}
 use Rattle.checks.specs.Check.{plain, check_bits, check_of as check_of_bytes}
@@ -32,8 +30,7 @@ use Rattle.frames.specs.Answers.{told_line}
 use Rattle.frames.specs.Line.{answer_of}
 use Rattle.frames.proofs.Apart.{lines_apart}
 use Rattle.timing.proofs as timing
-use Rattle.timing.specs.Answers.{yes}
-use Rattle.timing.proofs.Apart.{yes_apart}
+use Rattle.timing.proofs.Apart.{guards_apart}
 use Rattle.groups.proofs as groups
 use Rattle.rounds.proofs as rounds
 use Rattle.rounds.proofs.Apart.{steps_apart}
@@ -44,11 +41,10 @@ use Rattle.numbers.specs.declared.Run.{Run}
 use Rattle.numbers.specs.declared.Summed.{Summed}
 use Rattle.numbers.proofs as numbers
 use Rattle.numbers.specs.Number.{number_at as number_there}
-use Rattle.numbers.specs.Answers.{value_and_place, value_then}
-use Rattle.numbers.proofs.Answers.{values_apart}
+use Rattle.numbers.specs.Answers.{value_then}
+use Rattle.numbers.proofs.Answers.{numbers_apart}
 use Rattle.lists.proofs as lists
-use Rattle.lists.specs.Answers.{header_and_words}
-use Rattle.lists.proofs.Apart.{accepted_apart}
+use Rattle.lists.proofs.Apart.{checks_apart}
 use Rattle.periods.proofs as periods
 use Rattle.list_text.proofs as texts
 use Rattle.port_table.proofs as port-table
@@ -155,7 +151,7 @@ master_read = record {
   promised = λ M 𝓤 𝓛 𝓜 𝓡. frames.master_read.Met.met 𝓤 𝓛 𝓜 (within 𝓤 𝓛.H 𝓜 𝓡 program) has.frames_master_read;
   says = said table.master_read _ (λ M 𝓤 𝓛 mem run κs a. refl);
   refusing = λ κs a r ws c. told_so c (λ u. refl) (calls.master_read_lem a.0.now);
-  one = λ κs a r s ws vs c d. (told_apart single singles_apart r s (c ∙ sym d), refl);
+  one = λ κs a r s ws vs c d. (numbers_told_apart r s (c ∙ sym d), refl);
 }
 
 pub master_write : Shown table.master_write
@@ -163,7 +159,7 @@ master_write = record {
   promised = λ M 𝓤 𝓛 𝓜 𝓡. frames.master_write.Met.met 𝓤 𝓛 𝓜 (within 𝓤 𝓛.H 𝓜 𝓡 program) has.frames_master_write;
   says = said table.master_write _ (λ M 𝓤 𝓛 mem run κs a. refl);
   refusing = λ κs a r ws c. told_so c.0 (λ e. ap (λ (x : List ℕ). (a.0, (at_last a.1.0 x, tt))) (c.1 ∙ e)) (calls.master_write_lem a.0 a.1.0.now);
-  one = λ κs a r s ws vs c d. (told_apart single singles_apart r s (c.0 ∙ sym d.0), ap (λ (x : List ℕ). (tt, (x, tt))) (c.1 ∙ sym d.1));
+  one = λ κs a r s ws vs c d. (numbers_told_apart r s (c.0 ∙ sym d.0), ap (λ (x : List ℕ). (tt, (x, tt))) (c.1 ∙ sym d.1));
 }
 
 pub slave_read : Shown table.slave_read
@@ -171,7 +167,7 @@ slave_read = record {
   promised = λ M 𝓤 𝓛 𝓜 𝓡. frames.slave_read.Met.met 𝓤 𝓛 𝓜 (within 𝓤 𝓛.H 𝓜 𝓡 program) has.frames_slave_read;
   says = said table.slave_read _ (λ M 𝓤 𝓛 mem run κs a. refl);
   refusing = λ κs a r ws c. told_so c.0 (λ e. ap (λ (x : List ℕ). (a.0, (a.1.0, (at_last a.1.1.0 x, tt)))) (c.1 ∙ e)) (calls.slave_read_lem a.0 a.1.0.now a.1.1.0.now);
-  one = λ κs a r s ws vs c d. (told_apart single singles_apart r s (c.0 ∙ sym d.0), ap (λ (x : List ℕ). (tt, (tt, (x, tt)))) (c.1 ∙ sym d.1));
+  one = λ κs a r s ws vs c d. (numbers_told_apart r s (c.0 ∙ sym d.0), ap (λ (x : List ℕ). (tt, (tt, (x, tt)))) (c.1 ∙ sym d.1));
 }
 
 pub slave_write : Shown table.slave_write
@@ -179,7 +175,7 @@ slave_write = record {
   promised = λ M 𝓤 𝓛 𝓜 𝓡. frames.slave_write.Met.met 𝓤 𝓛 𝓜 (within 𝓤 𝓛.H 𝓜 𝓡 program) has.frames_slave_write;
   says = said table.slave_write _ (λ M 𝓤 𝓛 mem run κs a. refl);
   refusing = λ κs a r ws c. told_so c.0 (λ e. ap (λ (x : List ℕ). (a.0, (a.1.0, (at_last a.1.1.0 x, tt)))) (c.1 ∙ e)) (calls.slave_write_lem a.0 a.1.0.now a.1.1.0.now);
-  one = λ κs a r s ws vs c d. (told_apart single singles_apart r s (c.0 ∙ sym d.0), ap (λ (x : List ℕ). (tt, (tt, (x, tt)))) (c.1 ∙ sym d.1));
+  one = λ κs a r s ws vs c d. (numbers_told_apart r s (c.0 ∙ sym d.0), ap (λ (x : List ℕ). (tt, (tt, (x, tt)))) (c.1 ∙ sym d.1));
 }
 
 pub line_answer : Shown table.line_answer
@@ -235,7 +231,7 @@ telegram_bits = record {
   promised = λ M 𝓤 𝓛 𝓜 𝓡. timing.telegram_bits.Met.met 𝓤 𝓛 𝓜 (within 𝓤 𝓛.H 𝓜 𝓡 program) has.timing_telegram_bits;
   says = said table.telegram_bits _ (λ M 𝓤 𝓛 mem run κs a. refl);
   refusing = λ κs a r ws c. told_so c (λ u. refl) (calls.telegram a.0 a.1.0);
-  one = λ κs a r s ws vs c d. (told_apart single singles_apart r s (c ∙ sym d), refl);
+  one = λ κs a r s ws vs c d. (numbers_told_apart r s (c ∙ sym d), refl);
 }
 
 pub guard : Shown table.guard
@@ -243,7 +239,7 @@ guard = record {
   promised = λ M 𝓤 𝓛 𝓜 𝓡. timing.guard.Met.met 𝓤 𝓛 𝓜 (within 𝓤 𝓛.H 𝓜 𝓡 program) has.timing_guard;
   says = said table.guard _ (λ M 𝓤 𝓛 mem run κs a. refl);
   refusing = λ κs a r ws c. told_so c (λ u. refl) (calls.guarded a.0 a.1.0 a.1.1.0);
-  one = λ κs a r s ws vs c d. (told_apart yes yes_apart r s (c ∙ sym d), refl);
+  one = λ κs a r s ws vs c d. (guards_apart r s (c ∙ sym d), refl);
 }
 
 pub mvb_telegram_bits : Shown table.mvb_telegram_bits
@@ -267,7 +263,7 @@ number_at = record {
   promised = λ M 𝓤 𝓛 𝓜 𝓡. numbers.number_at.Met.met 𝓤 𝓛 𝓜 (within 𝓤 𝓛.H 𝓜 𝓡 program) has.numbers_number_at;
   says = said table.number_at _ (λ M 𝓤 𝓛 mem run κs a. refl);
   refusing = λ κs a r ws c. told_so c (λ u. refl) (file.number a.0.now a.1.0);
-  one = λ κs a r s ws vs c d. (told_apart value_and_place values_apart r s (c ∙ sym d), refl);
+  one = λ κs a r s ws vs c d. (numbers_apart r s (c ∙ sym d), refl);
 }
 
 pub reader_new : Shown table.reader_new
@@ -295,7 +291,7 @@ read_number = record {
   promised = λ M 𝓤 𝓛 𝓜 𝓡. numbers.read_number.Met.met 𝓤 𝓛 𝓜 (within 𝓤 𝓛.H 𝓜 𝓡 program) has.numbers_read_number;
   says = said table.read_number _ (λ M 𝓤 𝓛 mem run κs a. refl);
   refusing = λ κs a r ws c. told_so c (λ u. refl) (file.number a.0.now a.1.0);
-  one = λ κs a r s ws vs c d. (told_apart value_and_place values_apart r s (c ∙ sym d), refl);
+  one = λ κs a r s ws vs c d. (numbers_apart r s (c ∙ sym d), refl);
 }
 
 pub read_numbers : Shown table.read_numbers
@@ -335,7 +331,7 @@ list_check = record {
   promised = λ M 𝓤 𝓛 𝓜 𝓡. lists.list_check.Met.met 𝓤 𝓛 𝓜 (within 𝓤 𝓛.H 𝓜 𝓡 program) has.lists_list_check;
   says = said table.list_check _ (λ M 𝓤 𝓛 mem run κs a. refl);
   refusing = λ κs a r ws c. told_so c (λ u. refl) (file.list_check_lem a.0.now);
-  one = λ κs a r s ws vs c d. (told_apart header_and_words accepted_apart r s (c ∙ sym d), refl);
+  one = λ κs a r s ws vs c d. (checks_apart r s (c ∙ sym d), refl);
 }
 
 pub basic_period : Shown table.basic_period
@@ -343,7 +339,7 @@ basic_period = record {
   promised = λ M 𝓤 𝓛 𝓜 𝓡. periods.basic_period.Met.met 𝓤 𝓛 𝓜 (within 𝓤 𝓛.H 𝓜 𝓡 program) has.periods_basic_period;
   says = said table.basic_period _ (λ M 𝓤 𝓛 mem run κs a. refl);
   refusing = λ κs a r ws c. told_so c.0 (λ e. ap (λ (x : List ℕ). (a.0, (a.1.0, (at_last a.1.1.0 x, tt)))) (c.1 ∙ e)) (file.basic_period_lem a.0.now a.1.0 a.1.1.0.now);
-  one = λ κs a r s ws vs c d. (told_apart single singles_apart r s (c.0 ∙ sym d.0), ap (λ (x : List ℕ). (tt, (tt, (x, tt)))) (c.1 ∙ sym d.1));
+  one = λ κs a r s ws vs c d. (numbers_told_apart r s (c.0 ∙ sym d.0), ap (λ (x : List ℕ). (tt, (tt, (x, tt)))) (c.1 ∙ sym d.1));
 }
 
 pub list_text : Shown table.list_text
@@ -351,7 +347,7 @@ list_text = record {
   promised = λ M 𝓤 𝓛 𝓜 𝓡. texts.list_text.Met.met 𝓤 𝓛 𝓜 (within 𝓤 𝓛.H 𝓜 𝓡 program) has.list_text_list_text;
   says = said table.list_text _ (λ M 𝓤 𝓛 mem run κs a. refl);
   refusing = λ κs a r ws c. told_so c.0 (λ e. ap (λ (x : List ℕ). (a.0, (at_last a.1.0 x, tt))) (c.1 ∙ e)) (file.list_text_lem a.0.now a.1.0.now);
-  one = λ κs a r s ws vs c d. (told_apart single singles_apart r s (c.0 ∙ sym d.0), ap (λ (x : List ℕ). (tt, (x, tt))) (c.1 ∙ sym d.1));
+  one = λ κs a r s ws vs c d. (numbers_told_apart r s (c.0 ∙ sym d.0), ap (λ (x : List ℕ). (tt, (x, tt))) (c.1 ∙ sym d.1));
 }
 
 pub mvb_list_check : Shown table.mvb_list_check

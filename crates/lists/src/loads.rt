@@ -1,5 +1,5 @@
 // The load of the Basic Periods.
-ghost use Rattle.std.specs.Prelude.{◌≡◌, ◌+◌, ◌*◌, ◌^◌, ◌≤◌, ◌<◌, [], ◌∷◌, ◌++◌, List, ℕ, length, take, drop, get_or, ltb, nat_lt, if◌then◌else◌};
+ghost use Rattle.std.specs.Prelude.{◌≡◌, ◌+◌, ◌*◌, ◌^◌, ◌≤◌, ◌<◌, [], ◌∷◌, ◌++◌, List, ℕ, length, take, drop, get_or, ltb, nat_lt};
 ghost use Rattle.numbers.specs.Answers.{left};
 ghost use Rattle.lists.specs.Rules.{rules};
 ghost use Rattle.lists.specs.Reading.{summed_in, split_in};

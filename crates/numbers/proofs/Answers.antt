@@ -8,9 +8,11 @@ use lib.ListN.{drop}
 use lib.Seq.{drop-drop}
 use Rattle.refusals.specs.declared.Refusal.{Refusal}
 use Rattle.refusals.specs.declared.Refusal.TheVariants.{BadNumber}
-use Rattle.refusals.proofs.Apart.{numbers_apart}
+use Rattle.std.specs.Prelude.{Result}
+use Rattle.refusals.proofs.Apart as refusals
+use Rattle.refusals.proofs.Apart.{told_apart}
 use Rattle.refusals.specs.Refusals.{number_of}
-use Rattle.refusals.specs.Told.{gives, refusing}
+use Rattle.refusals.specs.Told.{gives, refusing, told}
 use Rattle.numbers.specs.Number.{Taken, bad, taken, number, from, number_at}
 use Rattle.numbers.specs.Answers.{value_and_place}
 
@@ -43,6 +45,9 @@ none s at m e = from_refused at m (number (drop at s)) e
 pub values_apart : (x y : ℕ × ℕ) → value_and_place x ≡ value_and_place y → x ≡ y
 values_apart x y e = let v : x.0 ≡ y.0 = cc in let p : x.1 ≡ y.1 = cc in λ i. (v i, p i)
 
+pub numbers_apart : (a b : Result (ℕ × ℕ) Refusal) → told value_and_place a ≡ told value_and_place b → a ≡ b
+numbers_apart = told_apart value_and_place values_apart
+
 -- what a reader that has moved yields of the bytes before it
 pub yields : (s s' : List ℕ) (at v next : ℕ) → gives (v ∷ next ∷ []) ≡ number_at s at → s' ≡ s → (n : ℕ) × (number (drop at s) ≡ taken v n) × (drop next s' ≡ drop n (drop at s))
 yields s s' at v next e same =
@@ -50,4 +55,4 @@ yields s s' at v next e same =
     (g.bytes, g.is, ap (drop next) same ∙ ap (λ (k : ℕ). drop k s) g.there ∙ sym (drop-drop g.bytes at s))
 
 pub yields_none : (s : List ℕ) (at : ℕ) (m : Refusal) → refusing m ≡ number_at s at → (number (drop at s) ≡ bad) × (m ≡ BadNumber)
-yields_none s at m e = let n = none s at m e in (n.0, numbers_apart m BadNumber n.1)
+yields_none s at m e = let n = none s at m e in (n.0, refusals.numbers_apart m BadNumber n.1)

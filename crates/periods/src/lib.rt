@@ -3,11 +3,11 @@
 
 mod skips;
 
-ghost use Rattle.std.specs.Prelude.{◌≡◌, true, false, [], ◌∷◌, ◌++◌, ◌+◌, ◌≤◌, ◌<◌, length, drop};
+ghost use Rattle.std.specs.Prelude.{◌≡◌, [], ◌∷◌, ◌++◌, ◌+◌, ◌≤◌, ◌<◌, length, drop};
 ghost use Rattle.refusals.specs.Told.{gives, refusal, told, single};
 ghost use Rattle.lists.specs.Values.{periods_of};
 ghost use Rattle.periods.specs.Period.{period_by};
-ghost use Rattle.periods.specs.Inside.{after, CycleHere, SplitHere, SubFits, PartSent, IsList, PeriodWords};
+ghost use Rattle.periods.specs.Inside.{CycleHere, SplitHere, SubFits, PartSent, IsList, PeriodWords};
 
 use lists::{cycles_of, list_check, periods_of};
 use numbers::{read_numbers, sum_numbers};

@@ -6,7 +6,7 @@ mod words;
 ghost use Rattle.std.specs.Prelude.{◌≡◌, true, ◌+◌, ◌≤◌};
 ghost use Rattle.refusals.specs.Told.{told};
 ghost use Rattle.groups.specs.Groups.{is_group, over};
-ghost use Rattle.rounds.specs.Rounds.{ask as askOf, stand, go_on, split as splitOf, heard, judge, broken as brokenOf, one_request, one_read, round, step_of, start_of};
+ghost use Rattle.rounds.specs.Rounds.{ask as askOf, stand, go_on, heard, judge, broken as brokenOf, one_request, one_read, round, step_of, start_of};
 ghost use Rattle.rounds.specs.Inside.{Sound, good_answer, resumed};
 ghost use Rattle.rounds.specs.Told.{step_values};
 
