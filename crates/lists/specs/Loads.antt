@@ -1,6 +1,6 @@
 -- The load of the Basic Periods.
 -- Assumes nothing.
-use Rattle.std.specs.Prelude.{◌≡◌, ℕ, ◌+◌, ◌*◌, ◌<◌, ◌≤◌, List, [], length, get_or}
+use Rattle.std.specs.Prelude.{◌≡◌, ℕ, zero, suc, ◌+◌, ◌*◌, ◌<◌, ◌≤◌, List, [], ◌++◌, length, get_or}
 use Rattle.lists.specs.Values.{Cycle}
 use Rattle.lists.specs.Sends.{cut_by, subcycle, sent_from}
 use Rattle.lists.specs.Weights.{weigh}
@@ -8,6 +8,11 @@ use Rattle.lists.specs.Weights.{weigh}
 -- no Basic Period has more than so many cycles weigh
 pub record IsSmall (cycles : ℕ) (loads : List ℕ) : Type 0 where
   pub at : (j : ℕ) → get_or loads j 0 ≤ 117248 * cycles
+
+-- before each cycle but the first there are twice as many Basic Periods: they repeat
+abbrev pub widened : ℕ → List ℕ → List ℕ
+widened zero loads = loads
+widened (suc cycle) loads = loads ++ loads
 
 -- what each part of the words weighs, cut by the split numbers, is added to its place
 pub record AddsParts (weights words splits old new : List ℕ) : Type 0 where

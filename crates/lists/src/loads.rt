@@ -1,11 +1,11 @@
 // The load of the Basic Periods.
-ghost use Rattle.std.specs.Prelude.{◌≡◌, ◌+◌, ◌*◌, ◌^◌, ◌≤◌, ◌<◌, [], ◌∷◌, ◌++◌, List, ℕ, length, take, drop, get_or, ltb, nat_lt};
+ghost use Rattle.std.specs.Prelude.{◌≡◌, ◌+◌, ◌*◌, ◌^◌, ◌≤◌, ◌<◌, [], ◌∷◌, ◌++◌, List, ℕ, length, take, drop, get_or, ltb};
 ghost use Rattle.numbers.specs.Answers.{left};
 ghost use Rattle.lists.specs.Rules.{rules};
 ghost use Rattle.lists.specs.Reading.{summed_in, split_in};
 ghost use Rattle.lists.specs.Sends.{some};
 ghost use Rattle.lists.specs.Inside.{Reads};
-ghost use Rattle.lists.specs.Loads.{IsSmall, AddsParts, AddsCycle};
+ghost use Rattle.lists.specs.Loads.{IsSmall, widened, AddsParts, AddsCycle};
 
 use crate::head::read_within;
 use crate::weights::Weights;
@@ -135,9 +135,10 @@ impl Loads {
     }
 
     // Before each cycle but the first there are twice as many Basic Periods: they repeat.
+    #[tactic(auto, using(crate::proofs::CycleLaws::widen_first, crate::proofs::CycleLaws::widen_again))]
     pub(crate) fn widen(&mut self, cycle: usize)
         requires { 0 < cycle → length self.old ≤ 512 }
-        ensures { self.new ≡ (if nat_lt 0 cycle then self.old ++ self.old else self.old) }
+        ensures { self.new ≡ widened cycle self.old }
     {
         if 0 < cycle {
             repeat(&mut self.bits, self.periods);
