@@ -1,33 +1,25 @@
 -- The walk: what it shows of the records that are left, and of all of them.
 -- Assumes nothing.
-use Rattle.std.proofs.Common.{ℕ, zero, suc, ◌+◌, ◌*◌, ◌%◌, ◌^◌, ◌<◌, ◌≤◌, ◌≡◌, refl, sym, ap, ap₂, ◌∙◌, arith, Bool, true, false, cond, ◌&&◌, List, [], ◌∷◌, length, get_or, eqb, ltb, leb, Option, Some, None}
+use Rattle.std.proofs.Common.{ℕ, suc, ◌+◌, ◌<◌, ◌≤◌, ◌≡◌, refl, sym, ap, ap₂, ◌∙◌, arith, Bool, true, false, cond, ◌&&◌, List, [], ◌∷◌, length, get_or, eqb, ltb, leb, Option, Some, None}
 use native.Mathlib.Nat.{zero-add}
 use borrow.Author.Tests.{lt-ltb, le-ltb, le-leb, lt-leb, leb-true, ltb-true, ltb-false, eqb-true}
-use Rattle.rows.specs.Rows.{data_bits, data_bytes}
 use Rattle.port_table.specs.declared.Port.{Port}
 use Rattle.port_table.specs.declared.Place.{Place}
 use Rattle.port_table.specs.declared.Seen.{Seen}
 use Rattle.port_table.specs.Table.{rising, good, port_bytes, table_bytes, before, place_of, offset_of, port_of, no_port}
 use Rattle.port_table.specs.Seen.{good_seen, seen_of}
-use Rattle.port_table.specs.Inside.{or_here}
 use Rattle.port_table.proofs.Tables.{by_cases, good_split}
+
+-- the place of a record that has the address, else what was found before
+abbrev pub or_here : Place → Option Place → ℕ → Option Place
+or_here p found a = cond (eqb p.port.address a) (Some p) found
 
 -- of the records left: from so many records and bytes on, each address at least `low`, with what was found before
 unfoldable pub walked : ℕ → ℕ → ℕ → ℕ → ℕ → Option Place → List Port → Option Seen
-walked a n at low bytes place [] = Some (record { count = n; bytes = bytes; place = place })
+walked a n at low bytes place [] = cond (leb low 4096) (Some (record { count = n; bytes = bytes; place = place })) None
 walked a n at low bytes place (p ∷ ps) =
-    cond (leb low p.address && (ltb p.address 4096 && ltb p.f_code 5))
+    cond (leb low p.address && ltb p.f_code 5)
     (walked a n (at + 1) (p.address + 1) (bytes + port_bytes p) (or_here (record { at = at; offset = bytes; port = p }) place a) ps) None
-
--- the data of a Process Data port, by its F_code
-pub doubled : (f : ℕ) → f < 5 → (2 * 2 ^ f % 18446744073709551616 ≡ data_bytes f) × (2 * 2 ^ f % 18446744073709551616 ≤ 32)
-unfolding data_bytes data_bits
-doubled zero h = (refl, omega arith)
-doubled (suc zero) h = (refl, omega arith)
-doubled (suc (suc zero)) h = (refl, omega arith)
-doubled (suc (suc (suc zero))) h = (refl, omega arith)
-doubled (suc (suc (suc (suc zero)))) h = (refl, omega arith)
-doubled (suc (suc (suc (suc (suc f))))) h = absurd (omega arith)
 
 some_none : {A : Type 0} {x : A} → None ≡ Some x → ⊥
 some_none e = let z : ◌≡◌ {A = ℕ} 0 1 = cc in omega arith
@@ -94,21 +86,38 @@ module _ (a at bytes low : ℕ) (place : Option Place) (p : Port) (ps : List Por
 
 -- ---- the walk
 
-apart : (a b c d : Bool) → (a && (b && (c && d))) ≡ ((a && (b && c)) && d)
+apart : (a b c d : Bool) → (a && (b && (c && d))) ≡ ((a && c) && (b && d))
 apart true true c d = refl
-apart true false c d = refl
+apart true false true d = refl
+apart true false false d = refl
 apart false b c d = refl
 
-rest : (a n at low bytes : ℕ) (place : Option Place) (ps : List Port) → Earlier place a low
+-- from an address above 4,095 on there is nothing to show
+high : (a n at low bytes : ℕ) (place : Option Place) (ps : List Port) → 4096 < low → walked a n at low bytes place ps ≡ None
+unfolding walked
+high a n at low bytes place [] h = ap (λ (b : Bool). cond b (Some (record { count = n; bytes = bytes; place = place })) None) (lt-leb low 4096 h)
+high a n at low bytes place (p ∷ ps) h =
+    by (leb low p.address) refl (λ l. high a n (at + 1) (p.address + 1) (bytes + port_bytes p) (or_here (record { at = at; offset = bytes; port = p }) place a) ps (omega arith))
+  where
+    next : Option Seen
+    next = walked a n (at + 1) (p.address + 1) (bytes + port_bytes p) (or_here (record { at = at; offset = bytes; port = p }) place a) ps
+
+    by : (b : Bool) → leb low p.address ≡ b → (low ≤ p.address → next ≡ None) → cond (b && ltb p.f_code 5) next None ≡ None
+    by true e ih = ap (λ (x : Option Seen). cond (ltb p.f_code 5) x None) (ih (leb-true low p.address e)) ∙ by_cases (ltb p.f_code 5) (λ t. ap (λ (b : Bool). cond b None None) t) (λ f. ap (λ (b : Bool). cond b None None) f)
+    by false e ih = refl
+
+rest : (a n at low bytes : ℕ) (place : Option Place) (ps : List Port) → low ≤ 4096 → Earlier place a low
     → walked a n at low bytes place ps ≡ cond (rising low ps) (Some (record { count = n; bytes = bytes + table_bytes ps; place = or_else place (found_from at bytes a ps) })) None
 unfolding walked rising before table_bytes
-rest a n at low bytes place [] h = ap₂ (λ (b : ℕ) (q : Option Place). Some (record { count = n; bytes = b; place = q })) (let z : bytes ≡ bytes + 0 = omega arith in z) (sym (or_none place))
-rest a n at low bytes place (p ∷ ps) h =
-    by fits refl (λ e. rest a n (at + 1) (p.address + 1) (bytes + port_bytes p) next ps (earlier_next a at bytes low place p ps h (above e)))
-    ∙ ap (λ (b : Bool). cond b (Some (record { count = n; bytes = bytes + table_bytes (p ∷ ps); place = or_else place (found_from at bytes a (p ∷ ps)) })) None) (sym (apart (leb low p.address) (ltb p.address 4096) (ltb p.f_code 5) (rising (p.address + 1) ps)))
+rest a n at low bytes place [] l h =
+    ap (λ (b : Bool). cond b (Some (record { count = n; bytes = bytes; place = place })) None) (le-leb low 4096 l)
+    ∙ ap₂ (λ (b : ℕ) (q : Option Place). Some (record { count = n; bytes = b; place = q })) (let z : bytes ≡ bytes + 0 = omega arith in z) (sym (or_none place))
+rest a n at low bytes place (p ∷ ps) l h =
+    by fits (ltb p.address 4096) refl refl (λ e u. rest a n (at + 1) (p.address + 1) (bytes + port_bytes p) next ps (omega (arith, ltb-true p.address 4096 u)) (earlier_next a at bytes low place p ps h (above e)))
+    ∙ ap (λ (b : Bool). cond b all None) (sym (apart (leb low p.address) (ltb p.address 4096) (ltb p.f_code 5) (rising (p.address + 1) ps)))
   where
     fits : Bool
-    fits = leb low p.address && (ltb p.address 4096 && ltb p.f_code 5)
+    fits = leb low p.address && ltb p.f_code 5
 
     above : fits ≡ true → low ≤ p.address
     above e = leb-true low p.address (both _ e)
@@ -120,21 +129,27 @@ rest a n at low bytes place (p ∷ ps) h =
     next : Option Place
     next = or_here (record { at = at; offset = bytes; port = p }) place a
 
-    by : (t : Bool) → fits ≡ t
-        → (fits ≡ true → walked a n (at + 1) (p.address + 1) (bytes + port_bytes p) next ps
-        ≡ cond (rising (p.address + 1) ps) (Some (record { count = n; bytes = bytes + port_bytes p + table_bytes ps; place = or_else next (found_from (at + 1) (bytes + port_bytes p) a ps) })) None)
-        → cond t (walked a n (at + 1) (p.address + 1) (bytes + port_bytes p) next ps) None
-        ≡ cond (t && rising (p.address + 1) ps) (Some (record { count = n; bytes = bytes + table_bytes (p ∷ ps); place = or_else place (found_from at bytes a (p ∷ ps)) })) None
-    by true e ih =
-        ih e
+    all : Option Seen
+    all = Some (record { count = n; bytes = bytes + table_bytes (p ∷ ps); place = or_else place (found_from at bytes a (p ∷ ps)) })
+
+    walked_on : Option Seen
+    walked_on = walked a n (at + 1) (p.address + 1) (bytes + port_bytes p) next ps
+
+    by : (t u : Bool) → fits ≡ t → ltb p.address 4096 ≡ u
+        → (fits ≡ true → ltb p.address 4096 ≡ true
+        → walked_on ≡ cond (rising (p.address + 1) ps) (Some (record { count = n; bytes = bytes + port_bytes p + table_bytes ps; place = or_else next (found_from (at + 1) (bytes + port_bytes p) a ps) })) None)
+        → cond t walked_on None ≡ cond (t && (u && rising (p.address + 1) ps)) all None
+    by true true e u ih =
+        ih e u
         ∙ ap₂ (λ (b : ℕ) (q : Option Place). cond (rising (p.address + 1) ps) (Some (record { count = n; bytes = b; place = q })) None)
         (let z : bytes + port_bytes p + table_bytes ps ≡ bytes + (port_bytes p + table_bytes ps) = omega arith in z) (found_next a at bytes low place p ps h (above e))
-    by false e ih = refl
+    by true false e u ih = high a n (at + 1) (p.address + 1) (bytes + port_bytes p) next ps (omega (arith, ltb-false p.address 4096 u))
+    by false u e f ih = refl
 
 pub walks : (a : ℕ) (ps : List Port) → length ps ≤ 256 → walked a (length ps) 0 0 0 None ps ≡ seen_of a ps
 unfolding seen_of good
 walks a ps h =
-    rest a (length ps) 0 0 0 None ps tt
+    rest a (length ps) 0 0 0 None ps (omega arith) tt
     ∙ ap (λ (b : ℕ). cond (rising 0 ps) (Some (record { count = length ps; bytes = b; place = found_from 0 0 a ps })) None) (zero-add (table_bytes ps))
     ∙ ap₂ (λ (n o : ℕ). cond (rising 0 ps) (Some (record { count = length ps; bytes = table_bytes ps; place = cond (ltb (place_of a ps) (length ps)) (Some (record { at = n; offset = o; port = port_of a ps })) None })) None) (zero-add (place_of a ps)) (zero-add (offset_of a ps))
     ∙ ap (λ (b : Bool). cond (b && rising 0 ps) (Some (good_seen a ps)) None) (sym (le-leb (length ps) 256 h))
