@@ -2,7 +2,7 @@
 -- that has its name. A row names what the toolchain made of the function's source:
 -- `ended`, its parameters and its answer; `routine`, the function as it runs, with all that it calls; `clauses`, its promise.
 -- Assumes nothing.
-use Rattle.std.specs.Prelude.{Bool, List, [], ◌∷◌, ℕ}
+use Rattle.std.specs.Prelude.{Bool, true, false, List, [], ◌∷◌, ℕ, Option, Some, None}
 use seplogic.Ra.Ura.{Ura}
 use base.Logic.{SProp}
 use prog.Memory.{Memory}
@@ -49,6 +49,7 @@ use Rattle.list_text.specs.contracts as texts
 use Rattle.list_text.proofs as texts-run
 use Rattle.port_table.specs.contracts as port-table
 use Rattle.port_table.proofs as port-table-run
+use Rattle.port_table.specs.declared.Tested.{Tested}
 use Rattle.ports.specs.contracts as ports
 use Rattle.ports.proofs as ports-run
 use Rattle.mvb.specs.contracts as mvb
@@ -225,13 +226,23 @@ mvb_list_text = record { ended = mvb.list_calls.mvb_list_text.ended; routine = p
 
 -- ---- ports and ages; the calls themselves have the form that C calls
 
+-- whether there is a value
+abbrev is_some : {A : Type 0} → Option A → Bool
+is_some None = false
+is_some (Some x) = true
+
+-- yes, the records and the sinks' bits; or no, and zeros
+abbrev tested_values : Option Tested → List ℕ
+tested_values None = 0 ∷ 0 ∷ 0 ∷ 0 ∷ 0 ∷ 0 ∷ []
+tested_values (Some t) = 1 ∷ t.count ∷ t.sinks
+
 -- goodness test and lookup, over any table
 abbrev pub look : EntryPoint
-look = record { ended = port-table.look.ended; routine = program port-table-run.look.Symbol.name; promise = port-table.look.clauses; refuses = []; told = λ κs r. yes_no r.good; passed_back = λ κs e. e }
+look = record { ended = port-table.look.ended; routine = program port-table-run.look.Symbol.name; promise = port-table.look.clauses; refuses = []; told = λ κs r. yes_no (is_some r); passed_back = λ κs e. e }
 
 -- the goodness test alone: yes or no, the records and the sinks' bits
 abbrev pub test_table : EntryPoint
-test_table = record { ended = port-table.test_table.ended; routine = program port-table-run.test_table.Symbol.name; promise = port-table.test_table.clauses; refuses = []; told = λ κs r. gives (one r.good ∷ r.count ∷ r.sinks); passed_back = λ κs e. e }
+test_table = record { ended = port-table.test_table.ended; routine = program port-table-run.test_table.Symbol.name; promise = port-table.test_table.clauses; refuses = []; told = λ κs r. gives (tested_values r); passed_back = λ κs e. e }
 
 -- "a frame arrives for a sink"
 abbrev pub mvb_arrive : EntryPoint

@@ -1,7 +1,7 @@
 -- Where ports lie: each within the store, packed in table order, no two on one byte.
 -- Assumes nothing.
-use mathlib.Core.Path.{◌≡◌, refl, sym, ap, ap₂, ◌∙◌, subst}
-use mathlib.Core.Bool.{Bool, true, false, not, cond}
+use mathlib.Core.Path.{◌≡◌, refl, sym, ap, ap₂, ◌∙◌}
+use mathlib.Core.Bool.{Bool, true, false, cond}
 use mathlib.Core.List.{List, [], ◌∷◌, ◌++◌}
 use Prim.Native.Nat.{ℕ, suc, ◌+◌, ◌≤◌, ◌<◌}
 use native.Mathlib.Numerals.{add-one}
@@ -10,13 +10,9 @@ use borrow.Author.Tests.{eqb-true}
 use lib.Dec.{eqb}
 use lib.ListN.{length, get_or, take, drop}
 use lib.Seq.{split_at, take-take, get_or-take, take-suc, length-take-le}
-use Rattle.rows.specs.Rows.{data_bytes}
 use Rattle.port_table.specs.declared.Port.{Port}
-use Rattle.port_table.specs.declared.Seen.{Seen}
 use Rattle.port_table.specs.Table.{port_bytes, table_bytes, before, place_of, offset_of, port_of, no_port}
-use Rattle.port_table.specs.Inside.{Walked}
-use Rattle.port_table.proofs.OneMore.{bytes_append, bytes_more, place_most}
-use Rattle.port_table.proofs.Steps.{shown}
+use Rattle.port_table.proofs.Tables.{bytes_append, bytes_more, place_most}
 
 before_take : (a : ℕ) (ps : List Port) → before a ps ≡ take (place_of a ps) ps
 unfolding before
@@ -70,7 +66,3 @@ next_to a b ps e =
 pub place_apart : (a b : ℕ) (ps : List Port) → place_of a ps < length ps → place_of a ps ≡ place_of b ps → a ≡ b
 place_apart a b ps h e =
     sym (port_address a ps h) ∙ ap (λ (n : ℕ). (get_or ps n no_port).address) e ∙ port_address b ps (omega arith)
-
--- of what a walk showed
-pub found_within : (s : Seen) (a : ℕ) → Walked s a → not s.good ≡ false → s.place.at < s.count → s.place.offset + data_bytes s.place.f_code ≤ s.bytes
-found_within s a (ps, e) g = subst (λ (t : Seen). t.place.at < t.count → t.place.offset + data_bytes t.place.f_code ≤ t.bytes) (sym (shown s a ps e g).1) (within a ps)

@@ -1,4 +1,3 @@
 pub mod Table
 pub mod Seen
 pub mod Tested
-pub mod Inside

@@ -1,19 +1,12 @@
 -- Bytes put into the store and taken from it, as the code's parts of slices have them.
 -- Assumes nothing.
-use mathlib.Core.Path.{◌≡◌, refl, sym, ap, ap₂, ◌∙◌, subst}
+use mathlib.Core.Path.{◌≡◌, refl, sym, ap, ap₂, ◌∙◌}
 use mathlib.Core.List.{List, ◌++◌, append-nil}
 use Prim.Native.Nat.{ℕ, ◌+◌, ◌-◌, ◌≤◌, ◌<◌}
 use native.Mathlib.Omega.{arith}
 use borrow.Rule.Slice.PartMut.{put_mid, put_same}
-use mathlib.Core.Bool.{not, false}
 use lib.ListN.{length, length-append, get_or, take, drop, length-drop, drop_of_length-le, get_or-append}
 use lib.Seq.{take_all, take-length, take_at, drop_at, drop-drop, length-take-le, get_or-take, get_or-drop, get_or-append-add}
-use Rattle.rows.specs.Rows.{data_bytes}
-use Rattle.port_table.specs.declared.Seen.{Seen}
-use Rattle.port_table.specs.Inside.{Walked}
-use Rattle.port_table.proofs.OneMore.{bytes_most, good_split}
-use Rattle.port_table.proofs.Steps.{shown}
-use Rattle.port_table.proofs.Places.{found_within}
 use Rattle.ports.specs.Lent.{replaced}
 
 -- what a copy to the front of an output leaves
@@ -54,14 +47,8 @@ put_is store new v o h e =
     (drop-drop (length store - o) o store ∙ drop_of_length-le store {i = o + (length store - o)} (omega arith))
     ∙ append-nil (new ++ drop (o + length new) store))
 
--- a port that was found lies within a store that is long enough
-pub port_within : (s : Seen) (a : ℕ) → Walked s a → not s.good ≡ false → s.place.at < s.count → (room : ℕ) → s.bytes ≤ room → (n : ℕ) → n ≡ data_bytes s.place.f_code → s.place.offset + n ≤ room
-port_within s a w g h room k n e = omega (arith, found_within s a w g h)
-
-pub place_small : (s : Seen) (a : ℕ) → Walked s a → not s.good ≡ false → s.place.at < s.count → (n : ℕ) → n ≡ data_bytes s.place.f_code → s.place.offset + n ≤ 8192
-place_small s a (ps, e) g h n k =
-    let z = shown s a ps e g in
-    port_within s a (ps, e) g h 8192 (subst (λ (t : Seen). t.bytes ≤ 8192) (sym z.1) (omega (arith, bytes_most ps, (good_split ps z.0).0))) n k
+pub part_length : (at size : ℕ) (l : List ℕ) → at + size ≤ length l → length (take (at + size - at) (drop at l)) ≡ size
+part_length at size l h = let d : length (drop at l) ≡ length l - at = length-drop at l in length-take-le (at + size - at) (drop at l) (omega arith) ∙ (let z : at + size - at ≡ size = omega arith in z)
 
 -- ---- bytes replaced
 

@@ -17,17 +17,10 @@ use Rattle.refusals.proofs.Apart.{never_both}
 use Rattle.rows.specs.Rows.{data_bits, reserved, data_bytes, blocks, block_bytes, frame_bytes}
 use Rattle.frames.specs.Blocks.{data_in, all_right, right_blocks}
 use Rattle.frames.specs.Slave.{slave_data, slave_frame, slave_read, slave_read_out, slave_write, slave_write_out}
+use Rattle.ports.specs.Inside.{frame_check, out_check}
 use Rattle.frames.proofs.Order.{read_done}
 use Rattle.rows.proofs.Rows.{full, whole, whole_most}
 use Rattle.frames.proofs.RoundTrip.{slave_accepted}
-
--- "1; 2" of a frame
-abbrev pub frame_check : ℕ → List ℕ → ℕ
-frame_check f frame = cond (not (eqb (length frame) (frame_bytes f))) 1 (cond (not (all_right (blocks f) (block_bytes f) frame)) 2 0)
-
--- "4 for the output" of a frame
-abbrev pub out_check : ℕ → List ℕ → ℕ
-out_check f out = cond (ltb (length out) (frame_bytes f)) 4 0
 
 -- no F_code of Process Data is reserved
 pub process_data_lem : (f : ℕ) → f ≤ 4 → reserved f ≡ false

@@ -1,24 +1,25 @@
-// The rules of the calls that name a port, over what the walk of the table showed.
-ghost use Rattle.std.specs.Prelude.{◌≡◌, ◌++◌, ◌+◌, ◌<◌, ◌≤◌, length, drop};
-ghost use Rattle.frames.specs.Words.{f_code_of, address};
-ghost use Rattle.port_table.specs.Inside.{Walked};
-ghost use Rattle.ports.specs.Lent.{replaced};
-ghost use Rattle.ports.specs.Inside.{Arrived, Answered, HasRead, Filled, Showed};
+// The rules of the calls that name a port.
+ghost use Rattle.std.specs.Prelude.{◌≡◌, [], ◌∷◌, ◌++◌, ◌+◌, ◌<◌, ◌≤◌, length, drop, MatchResult};
+ghost use Rattle.refusals.specs.Told.{told, single};
+ghost use Rattle.rows.specs.Rows.{data_bytes, frame_bytes};
+ghost use Rattle.frames.specs.Slave.{slave_data, slave_frame};
+ghost use Rattle.port_table.specs.Table.{port_bytes};
+ghost use Rattle.ports.specs.Lent.{answered, unless_refused, replaced};
+ghost use Rattle.ports.specs.Arriving.{arrive, arrive_store, arrive_ages};
+ghost use Rattle.ports.specs.Answering.{answer, answer_out};
+ghost use Rattle.ports.specs.Reading.{read, read_out, read_age};
+ghost use Rattle.ports.specs.Filling.{fill, fill_store};
+ghost use Rattle.ports.specs.Inside.{done, frame_check, out_check};
 
-use port_table::Seen;
+use port_table::Port;
 use refusals::Refusal;
 
-fn value(n: usize) -> u32
-    requires { n < 65536 }
-    ensures { result ≡ n }
+// A port's data in bytes, as its row has it.
+#[tactic(auto, using(rows::proofs::Rows::data_is, port_table::proofs::Tables::size_most))]
+fn size(port: Port) -> usize
+    ensures { (result ≡ port_bytes port) × (result ≤ 32) }
 {
-    n as u32
-}
-
-fn f_code_of(word: u16) -> u8
-    ensures { result ≡ f_code_of word }
-{
-    (word / 4096) as u8
+    (rows::row_of(port.f_code)[0] / 8) as usize
 }
 
 // Data into the store, from a place on.
@@ -26,153 +27,168 @@ fn put(data: &[u8], store: &mut [u8], offset: usize)
     requires { offset + length «data».now ≤ length store.old }
     ensures { store.new ≡ replaced offset «data».now store.old }
 {
-    copy_front(data, &mut store[offset..]);
+    runs::copy_front(data, &mut store[offset..]);
 }
 
-// By a loop of its own: so all that the library runs is in its own crates.
-fn copy_front(from: &[u8], to: &mut [u8])
-    requires { length from.now ≤ length to.old }
-    ensures { to.new ≡ from.now ++ drop (length from.now) to.old }
+// 1 and 2 of a frame of Process Data; else its data goes into the store, from a place on.
+fn receive(f_code: u8, frame: &[u8], store: &mut [u8], offset: usize) -> Result<(), Refusal>
+    requires { (f_code ≤ 4) × (offset + data_bytes f_code ≤ length store.old) }
+    ensures { (told done result ≡ answered (frame_check f_code frame.now) (0 ∷ [])) × (store.new ≡ unless_refused (frame_check f_code frame.now) (replaced offset (slave_data f_code frame.now) store.old) store.old) }
 {
-    let mut i: usize = 0;
-    while i < from.len() {
-        to[i] = from[i];
-        i += 1;
+    match frames::slave_read(f_code, frame, &mut store[offset..]) {
+        Ok(_) => Ok(()),
+        Err(refusal) => Err(refusal),
     }
+}
+
+// 4 for the output; else the frame of Process Data goes to its start.
+fn send(f_code: u8, data: &[u8], out: &mut [u8]) -> Result<usize, Refusal>
+    requires { (f_code ≤ 4) × (length «data».now ≡ data_bytes f_code) }
+    ensures small { MatchResult result (λ n. n < 65536) (λ _. Unit {0}) }
+    ensures answers { (told single result ≡ answered (out_check f_code out.old) (frame_bytes f_code ∷ [])) × (out.new ≡ unless_refused (out_check f_code out.old) (slave_frame f_code «data».now ++ drop (frame_bytes f_code) out.old) out.old) }
+{
+    frames::slave_write(f_code, data, out)
 }
 
 // 13; 4 for store, then ages; 14; 15; 16; 17; 1 and 2 of the frame. The store has room from the port on.
-pub(crate) fn arrive(seen: Seen, store: &mut [u8], ages: &mut [u16], word: u16, frame: &[u8]) -> u32
-    requires { Walked seen (address word) }
-    ensures { Arrived seen store.old ages.old word frame.now result store.new ages.new }
+#[tactic(auto, using(port_table::proofs::Walk::shown_good, port_table::proofs::Walk::shown_bad, crate::proofs::Found::shown_at, crate::proofs::Found::shown_none), unfolding(crate::specs::Arriving::arrive, crate::specs::Arriving::arrive_store, crate::specs::Arriving::arrive_ages, crate::specs::Arriving::arrive_refusal))]
+pub(crate) fn arrive(
+    table: &[Port],
+    store: &mut [u8],
+    ages: &mut [u16],
+    word: u16,
+    frame: &[u8],
+) -> Result<(), Refusal>
+    ensures { (told done result ≡ arrive table.now store.old ages.old word frame.now) × (store.new ≡ arrive_store table.now store.old ages.old word frame.now) × (ages.new ≡ arrive_ages table.now store.old ages.old word frame.now) }
 {
-    let good = seen.good;
-    if !good {
-        return Refusal::TableNotGood.code();
-    }
+    let Some(seen) = port_table::look(table, word % 4096) else {
+        return Err(Refusal::TableNotGood);
+    };
     if store.len() < seen.bytes {
-        return Refusal::TooShort.code();
+        return Err(Refusal::TooShort);
     }
     if ages.len() < seen.count {
-        return Refusal::TooShort.code();
+        return Err(Refusal::TooShort);
     }
-    let f_code = f_code_of(word);
+    let f_code = (word / 4096) as u8;
     if 4 < f_code {
-        return Refusal::NotProcessData.code();
+        return Err(Refusal::NotProcessData);
     }
-    let place = seen.place;
-    let at = place.at;
-    if seen.count <= at {
-        return Refusal::NoSuchPort.code();
+    let Some(place) = seen.place else {
+        return Err(Refusal::NoSuchPort);
+    };
+    if place.port.f_code != f_code {
+        return Err(Refusal::FcodeNotPorts);
     }
-    if place.f_code != f_code {
-        return Refusal::FcodeNotPorts.code();
+    if place.port.sink == 0 {
+        return Err(Refusal::WrongDirection);
     }
-    if place.sink == 0 {
-        return Refusal::WrongDirection.code();
-    }
-    let offset = place.offset;
-    let got = frames::slave_read(f_code, frame, &mut store[offset..]);
-    match got {
-        Ok(_) => {
-            ages[at] = 0;
-            0
+    match receive(f_code, frame, store, place.offset) {
+        Ok(()) => {
+            ages[place.at] = 0;
+            Ok(())
         }
-        Err(r) => r.code(),
+        Err(refusal) => Err(refusal),
     }
 }
 
 // 13; 4 for store; 14; 15; 16; 17; 4 for the output.
-pub(crate) fn answer(seen: Seen, store: &[u8], word: u16, out: &mut [u8]) -> u32
-    requires { Walked seen (address word) }
-    ensures { Answered seen store.now word out.old result out.new }
+#[tactic(auto, using(port_table::proofs::Walk::shown_good, port_table::proofs::Walk::shown_bad, crate::proofs::Found::shown_at, crate::proofs::Found::shown_none), unfolding(crate::specs::Answering::answer, crate::specs::Answering::answer_out, crate::specs::Answering::answer_refusal))]
+pub(crate) fn answer(
+    table: &[Port],
+    store: &[u8],
+    word: u16,
+    out: &mut [u8],
+) -> Result<usize, Refusal>
+    ensures small { MatchResult result (λ n. n < 65536) (λ _. Unit {0}) }
+    ensures answers { (told single result ≡ answer table.now store.now word out.old) × (out.new ≡ answer_out table.now store.now word out.old) }
 {
-    let good = seen.good;
-    if !good {
-        return Refusal::TableNotGood.code();
-    }
+    let Some(seen) = port_table::look(table, word % 4096) else {
+        return Err(Refusal::TableNotGood);
+    };
     if store.len() < seen.bytes {
-        return Refusal::TooShort.code();
+        return Err(Refusal::TooShort);
     }
-    let f_code = f_code_of(word);
+    let f_code = (word / 4096) as u8;
     if 4 < f_code {
-        return Refusal::NotProcessData.code();
+        return Err(Refusal::NotProcessData);
     }
-    let place = seen.place;
-    if seen.count <= place.at {
-        return Refusal::NoSuchPort.code();
+    let Some(place) = seen.place else {
+        return Err(Refusal::NoSuchPort);
+    };
+    if place.port.f_code != f_code {
+        return Err(Refusal::FcodeNotPorts);
     }
-    if place.f_code != f_code {
-        return Refusal::FcodeNotPorts.code();
+    if place.port.sink != 0 {
+        return Err(Refusal::WrongDirection);
     }
-    if place.sink != 0 {
-        return Refusal::WrongDirection.code();
-    }
-    let offset = place.offset;
-    let end = offset + place.size;
-    let wrote = frames::slave_write(f_code, &store[offset..end], out);
-    match wrote {
-        Ok(n) => value(n),
-        Err(r) => r.code(),
-    }
+    let end = place.offset + size(place.port);
+    send(f_code, &store[place.offset..end], out)
 }
 
 // 13; 4 for store, then ages; 15; 17; 4 for the output.
-pub(crate) fn read(seen: Seen, store: &[u8], ages: &[u16], out: &mut [u8], age: &mut u16) -> u32
-    requires { Showed seen }
-    ensures { HasRead seen store.now ages.now out.old age.old result out.new age.new }
+#[tactic(auto, using(port_table::proofs::Walk::shown_good, port_table::proofs::Walk::shown_bad, crate::proofs::Found::shown_at, crate::proofs::Found::shown_none), unfolding(crate::specs::Reading::read, crate::specs::Reading::read_out, crate::specs::Reading::read_age, crate::specs::Reading::read_refusal))]
+pub(crate) fn read(
+    table: &[Port],
+    store: &[u8],
+    ages: &[u16],
+    address: u16,
+    out: &mut [u8],
+    age: &mut u16,
+) -> Result<usize, Refusal>
+    ensures small { MatchResult result (λ n. n < 65536) (λ _. Unit {0}) }
+    ensures answers { (told single result ≡ read table.now store.now ages.now address out.old) × (out.new ≡ read_out table.now store.now ages.now address out.old) × (age.new ≡ read_age table.now store.now ages.now address out.old age.old) }
 {
-    let good = seen.good;
-    if !good {
-        return Refusal::TableNotGood.code();
-    }
+    let Some(seen) = port_table::look(table, address) else {
+        return Err(Refusal::TableNotGood);
+    };
     if store.len() < seen.bytes {
-        return Refusal::TooShort.code();
+        return Err(Refusal::TooShort);
     }
     if ages.len() < seen.count {
-        return Refusal::TooShort.code();
+        return Err(Refusal::TooShort);
     }
-    let place = seen.place;
-    let at = place.at;
-    if seen.count <= at {
-        return Refusal::NoSuchPort.code();
+    let Some(place) = seen.place else {
+        return Err(Refusal::NoSuchPort);
+    };
+    if place.port.sink == 0 {
+        return Err(Refusal::WrongDirection);
     }
-    if place.sink == 0 {
-        return Refusal::WrongDirection.code();
-    }
-    let size = place.size;
+    let size = size(place.port);
     if out.len() < size {
-        return Refusal::TooShort.code();
+        return Err(Refusal::TooShort);
     }
-    let offset = place.offset;
-    let end = offset + size;
-    copy_front(&store[offset..end], out);
-    *age = ages[at];
-    value(size)
+    let end = place.offset + size;
+    runs::copy_front(&store[place.offset..end], out);
+    *age = ages[place.at];
+    Ok(size)
 }
 
 // 13; 4 for store; 15; 17; 1.
-pub(crate) fn fill(seen: Seen, store: &mut [u8], data: &[u8]) -> u32
-    requires { Showed seen }
-    ensures { Filled seen store.old «data».now result store.new }
+#[tactic(auto, using(port_table::proofs::Walk::shown_good, port_table::proofs::Walk::shown_bad, crate::proofs::Found::shown_at, crate::proofs::Found::shown_none), unfolding(crate::specs::Filling::fill, crate::specs::Filling::fill_store, crate::specs::Filling::fill_refusal))]
+pub(crate) fn fill(
+    table: &[Port],
+    store: &mut [u8],
+    address: u16,
+    data: &[u8],
+) -> Result<(), Refusal>
+    ensures { (told done result ≡ fill table.now store.old address «data».now) × (store.new ≡ fill_store table.now store.old address «data».now) }
 {
-    let good = seen.good;
-    if !good {
-        return Refusal::TableNotGood.code();
-    }
+    let Some(seen) = port_table::look(table, address) else {
+        return Err(Refusal::TableNotGood);
+    };
     if store.len() < seen.bytes {
-        return Refusal::TooShort.code();
+        return Err(Refusal::TooShort);
     }
-    let place = seen.place;
-    if seen.count <= place.at {
-        return Refusal::NoSuchPort.code();
+    let Some(place) = seen.place else {
+        return Err(Refusal::NoSuchPort);
+    };
+    if place.port.sink != 0 {
+        return Err(Refusal::WrongDirection);
     }
-    if place.sink != 0 {
-        return Refusal::WrongDirection.code();
-    }
-    if data.len() != place.size {
-        return Refusal::WrongLength.code();
+    if data.len() != size(place.port) {
+        return Err(Refusal::WrongLength);
     }
     put(data, store, place.offset);
-    0
+    Ok(())
 }

@@ -1,43 +1,26 @@
--- Each way out is one of the order of checks.
+-- Where the search gives up: by what is left of the order.
 -- Assumes nothing.
-use Rattle.std.proofs.Common.{not, ap, sym, refl, arith}
-use Rattle.frames.specs.Words.{address}
-use Rattle.rows.specs.Rows.{data_bytes}
-use Rattle.ports.proofs.Bytes.{port_within}
-use Rattle.ports.proofs.Order.{arrive_13, arrive_store_lem, arrive_ages_lem, arrive_14, arrive_15, arrive_16, arrive_17, arrive_done, arrive_frame}
+use Rattle.std.proofs.Common.{refl, ◌∙◌}
+use borrow.Author.Tests.{eq-eqb, ne_eqb}
+use Rattle.frames.specs.Words.{f_code_of}
+use Rattle.ports.proofs.Order.{arrive_no, arrive_4, arrive_on, arrive_ok, arrive_err}
 use Rattle.ports.proofs.rules.arrive.Goals as goal
 
-pub returns-then-not-good : goal.returns-then-not-good
-returns-then-not-good c = arrive_13 c.args.seen _ _ _ _ _ (ap not c.if-not-good.true) c.code.ensures
-
 pub returns-then-store-seen : goal.returns-then-store-seen
-returns-then-store-seen c = arrive_store_lem c.args.seen _ _ _ _ _ (ap not c.if-not-good.false) c.if-store-seen.true c.code-then-store-seen.ensures
-
-pub returns-then-ages-seen : goal.returns-then-ages-seen
-returns-then-ages-seen c = arrive_ages_lem c.args.seen _ _ _ _ _ (ap not c.if-not-good.false) c.if-store-seen.false c.if-ages-seen.true c.code-then-ages-seen.ensures
-
-pub returns-then-f_code-gt4 : goal.returns-then-f_code-gt4
-returns-then-f_code-gt4 c = arrive_14 c.args.seen _ _ _ _ _ (ap not c.if-not-good.false) c.if-store-seen.false c.if-ages-seen.false _ c.f_code_of-f_code.ensures c.if-f_code-gt4.true c.code-then-f_code-gt4.ensures
-
-pub returns-then-seen-at : goal.returns-then-seen-at
-returns-then-seen-at c = arrive_15 c.args.seen _ _ _ _ _ (ap not c.if-not-good.false) c.if-store-seen.false c.if-ages-seen.false _ c.f_code_of-f_code.ensures c.if-f_code-gt4.false c.if-seen-at.true c.code-then-seen-at.ensures
+returns-then-store-seen c = arrive_no _ _ _ _ _ 4 (arrive_4 _ _ _ _ _ c.in-Some.seen c.in-Some.ensures c.if-store-seen.true) refl
 
 pub returns-then-place-f_code : goal.returns-then-place-f_code
-returns-then-place-f_code c = arrive_16 c.args.seen _ _ _ _ _ (ap not c.if-not-good.false) c.if-store-seen.false c.if-ages-seen.false _ c.f_code_of-f_code.ensures c.if-f_code-gt4.false c.if-seen-at.false c.if-place-f_code.true c.code-then-place-f_code.ensures
+returns-then-place-f_code c =
+    let p = c.in-Some-place.place in
+    arrive_no _ _ _ _ _ 16 (arrive_on _ _ _ _ _ c.in-Some.seen c.in-Some.ensures c.in-Some-place.place c.in-Some-place.is c.if-store-seen.false c.if-ages-seen.false c.if-f_code-gt4.false ∙ simp (ne_eqb p.port.f_code (f_code_of c.args.word) c.if-place-f_code.true)) refl
 
 pub returns-then-place-eq0 : goal.returns-then-place-eq0
-returns-then-place-eq0 c = arrive_17 c.args.seen _ _ _ _ _ (ap not c.if-not-good.false) c.if-store-seen.false c.if-ages-seen.false _ c.f_code_of-f_code.ensures c.if-f_code-gt4.false c.if-seen-at.false c.if-place-f_code.false c.if-place-eq0.true c.code-then-place-eq0.ensures
-
-pub slice_bounds-slave_read-count : goal.slice_bounds-slave_read-count
-slice_bounds-slave_read-count c = omega (arith, (port_within c.args.seen (address c.args.word) c.requires (ap not c.if-not-good.false) c.if-seen-at.false _ c.if-store-seen.false _ (ap data_bytes (sym c.if-place-f_code.false))))
-
-pub slice_bounds-slave_read-start : goal.slice_bounds-slave_read-start
-slice_bounds-slave_read-start c = omega (arith, (port_within c.args.seen (address c.args.word) c.requires (ap not c.if-not-good.false) c.if-seen-at.false _ c.if-store-seen.false _ (ap data_bytes (sym c.if-place-f_code.false))))
+returns-then-place-eq0 c =
+    let p = c.in-Some-place.place in
+    arrive_no _ _ _ _ _ 17 (arrive_on _ _ _ _ _ c.in-Some.seen c.in-Some.ensures c.in-Some-place.place c.in-Some-place.is c.if-store-seen.false c.if-ages-seen.false c.if-f_code-gt4.false ∙ simp (eq-eqb p.port.f_code (f_code_of c.args.word) c.if-place-f_code.false, eq-eqb p.port.sink 0 c.if-place-eq0.true)) refl
 
 pub returns-in-Ok : goal.returns-in-Ok
-returns-in-Ok c =
-    arrive_done c.args.seen _ _ _ _ _ (ap not c.if-not-good.false) c.if-store-seen.false c.if-ages-seen.false _ c.f_code_of-f_code.ensures c.if-f_code-gt4.false c.if-seen-at.false c.if-place-f_code.false c.if-place-eq0.false (port_within c.args.seen (address c.args.word) c.requires (ap not c.if-not-good.false) c.if-seen-at.false _ c.if-store-seen.false _ (ap data_bytes (sym c.if-place-f_code.false))) _ c.in-Ok.ensures.1 _ c.in-Ok.ensures.0 refl
+returns-in-Ok c = arrive_ok _ _ _ _ _ c.in-Some.seen c.in-Some.ensures c.in-Some-place.place c.in-Some-place.is c.if-store-seen.false c.if-ages-seen.false c.if-f_code-gt4.false c.if-place-f_code.false c.if-place-eq0.false _ c.in-Ok.ensures.1 c.in-Ok.ensures.0
 
 pub returns-in-Err : goal.returns-in-Err
-returns-in-Err c =
-    arrive_frame c.args.seen _ _ _ _ _ (ap not c.if-not-good.false) c.if-store-seen.false c.if-ages-seen.false _ c.f_code_of-f_code.ensures c.if-f_code-gt4.false c.if-seen-at.false c.if-place-f_code.false c.if-place-eq0.false (port_within c.args.seen (address c.args.word) c.requires (ap not c.if-not-good.false) c.if-seen-at.false _ c.if-store-seen.false _ (ap data_bytes (sym c.if-place-f_code.false))) _ c.in-Err.ensures.1 _ c.in-Err.ensures.0 c.code-in-Err.ensures
+returns-in-Err c = arrive_err _ _ _ _ _ c.in-Some.seen c.in-Some.ensures c.in-Some-place.place c.in-Some-place.is c.if-store-seen.false c.if-ages-seen.false c.if-f_code-gt4.false c.if-place-f_code.false c.if-place-eq0.false _ c.in-Err.ensures.1 _ c.in-Err.ensures.0
