@@ -1,0 +1,59 @@
+// What the programs that test print: answers, and the hash of what was lent.
+#![tactic(auto)]
+
+ghost use Rattle.std.specs.Prelude.{◌≡◌, ◌*◌, ◌%◌, ◌^◌, fold, bit_xor};
+
+use refusals::Refusal;
+use std::fmt;
+use std::hash::Hasher;
+
+// A refusal, by its number.
+#[derive(Clone, Copy)]
+pub struct Refused(pub Refusal);
+
+impl fmt::Display for Refused {
+    fn fmt<W: fmt::Write>(&self, f: &mut fmt::Formatter<W>) -> fmt::Result {
+        write!(f, "refused {}", self.0.number())
+    }
+}
+
+// What a call answered: its values, or why it was refused.
+#[derive(Drop)]
+pub struct Answer<T>(pub Result<T, Refusal>);
+
+impl<T: fmt::Display> fmt::Display for Answer<T> {
+    fn fmt<W: fmt::Write>(&self, f: &mut fmt::Formatter<W>) -> fmt::Result {
+        match &self.0 {
+            Ok(values) => write!(f, "gives {values}"),
+            Err(refusal) => write!(f, "{}", Refused(*refusal)),
+        }
+    }
+}
+
+// FNV-1a of 32 bits.
+#[derive(Clone, Copy)]
+pub struct Fnv(u32);
+
+impl Default for Fnv {
+    ghost is_default = { λ hash. hash.0 ≡ 2166136261 };
+
+    fn default() -> Self {
+        Fnv(2166136261)
+    }
+}
+
+impl Hasher for Fnv {
+    ghost write = { λ hash bytes. record { 0 = fold (λ h byte. (bit_xor h byte * 16777619) % 2 ^ 32) hash.0 bytes } };
+
+    ghost finish = { λ hash. hash.0 };
+
+    fn finish(&self) -> u64 {
+        u64::from(self.0)
+    }
+
+    fn write(&mut self, bytes: &[u8]) {
+        for byte in bytes {
+            self.0 = (self.0 ^ u32::from(*byte)).wrapping_mul(16777619);
+        }
+    }
+}
