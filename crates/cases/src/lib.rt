@@ -42,6 +42,32 @@ impl Default for Fnv {
     }
 }
 
+// The hash of some bytes.
+impl From<&[u8]> for Fnv {
+    fn from(bytes: &[u8]) -> Self {
+        let mut hash = Fnv::default();
+        hash.write(bytes);
+        hash
+    }
+}
+
+// The hash of some numbers, each high byte first.
+impl From<&[u16]> for Fnv {
+    fn from(numbers: &[u16]) -> Self {
+        let mut hash = Fnv::default();
+        for number in numbers {
+            hash.write(&number.to_be_bytes());
+        }
+        hash
+    }
+}
+
+impl fmt::Display for Fnv {
+    fn fmt<W: fmt::Write>(&self, f: &mut fmt::Formatter<W>) -> fmt::Result {
+        write!(f, "{}", self.0)
+    }
+}
+
 impl Hasher for Fnv {
     ghost write = { λ hash bytes. record { 0 = fold (λ h byte. (bit_xor h byte * 16777619) % 2 ^ 32) hash.0 bytes } };
 
