@@ -14,7 +14,7 @@ use denote.Triple.Entry.{Args, Res}
 use denote.Triple.Clauses.{Ended, AtExit, Clauses}
 use Rattle.refusals.specs.contracts as refusals
 use Rattle.refusals.proofs as refusals-run
-use Rattle.refusals.specs.Told.{Told, gives}
+use Rattle.refusals.specs.Told.{Told, gives, told}
 use Rattle.refusals.specs.Codes.{told_code}
 use Rattle.checks.specs.contracts as checks
 use Rattle.checks.proofs as checks-run
@@ -34,7 +34,7 @@ use Rattle.rounds.proofs as rounds-run
 use Rattle.rounds.specs.Told as Rounds
 use Rattle.search.specs.contracts as search-of
 use Rattle.search.proofs as search-of-run
-use Rattle.search.specs.Told as Searches
+use Rattle.search.specs.Told.{requests_and_reads}
 use Rattle.numbers.specs.contracts as numbers
 use Rattle.numbers.proofs as numbers-run
 use Rattle.numbers.specs.Answers.{told_number}
@@ -273,7 +273,7 @@ round_answer = record { ended = rounds.Round.answer.ended; routine = program rou
 
 -- the search over a lent set
 abbrev pub search_set : EntryPoint
-search_set = record { ended = search-of.search_set.ended; routine = program search-of-run.search_set.Symbol.name; promise = search-of.search_set.clauses; refuses = 1 ∷ 4 ∷ []; told = λ κs r. Searches.told r; passed_back = λ κs e. e }
+search_set = record { ended = search-of.search_set.ended; routine = program search-of-run.search_set.Symbol.name; promise = search-of.search_set.clauses; refuses = 1 ∷ 4 ∷ []; told = λ κs r. told requests_and_reads r; passed_back = λ κs e. e }
 
 -- the start as C calls it
 abbrev pub mvb_round_start : EntryPoint

@@ -9,7 +9,6 @@ ghost use Rattle.mvb.specs.Searches.{search_answer, search_requests};
 use frames::LineAnswer;
 use refusals::Refusal;
 use rounds::{Phase, Round, Step};
-use search::Searched;
 
 // What a round's end is to C.
 const END: u32 = 131072;
@@ -175,10 +174,10 @@ pub fn mvb_search(set: &[u8], out: &mut [u16], requests: &mut u16) -> u32
     ensures number { requests.new ≡ search_requests set.now (length out.old) requests.old }
 {
     match search::search_set(set, out) {
-        Searched::Done(asked, reads) => {
-            *requests = asked;
-            wide(reads)
+        Ok(found) => {
+            *requests = found.requests;
+            found.reads as u32
         }
-        Searched::Refused(r) => r.code(),
+        Err(refusal) => refusal.code(),
     }
 }

@@ -14,10 +14,10 @@ use lib.Seq.{get_or-drop, get_or-set_same, get_or-set_other, drop-set-lt, ext_ge
 use Rattle.groups.specs.Groups.{is_group}
 use Rattle.groups.specs.Sets.{devices}
 use Rattle.groups.proofs.Follow.{Group, is_group_lem, group_is, in_lower, in_upper}
-use Rattle.groups.proofs.Powers.{doubled}
+use Rattle.groups.proofs.Powers.{at_most, doubled, cut}
 use Rattle.groups.proofs.Costs.{halved}
 use Rattle.search.specs.Searches.{in_set}
-use Rattle.search.specs.Inside.{bit_of, mark_of, One, Two, Marked, Width, Packed}
+use Rattle.search.specs.Inside.{bit_of, mark_of, One, Two, Marked, Packed}
 use Rattle.search.proofs.Bits.{or_bit, and_bit, bit_at, one_of, two_of, fold_one, fold_two, no_bit}
 
 -- ---- how many devices the halves have
@@ -44,19 +44,7 @@ module _ (S : ℕ → Bool) where
       go true = refl
       go false = refl
 
--- ---- the marks of one M
--- those of the groups {M, C} with M = n + 1 lie from 2^(12-M) on, up to those with M = n
-marks_of : (n m c : ℕ) → suc n ≤ 12 → Group m c → 2 ^ (12 - suc n) ≤ mark_of m c → mark_of m c < 2 ^ (12 - n) → m ≡ suc n
-marks_of n m c h g lo hi =
-    let b = g.0 in
-    elim (dec_le m n) [
-      | yes k ↦ absurd (let p : 2 ^ (12 - n) ≤ 2 ^ (12 - m) = pow_mono (omega arith) in omega arith)
-      | no k ↦ elim (dec_le m (suc n)) [
-        | yes l ↦ omega arith
-        | no l ↦ absurd (let p : 2 ^ suc (12 - m) ≤ 2 ^ (12 - suc n) = pow_mono (omega arith) in let q = g.1 in omega (arith, doubled (12 - m)))
-      ]
-    ]
-
+-- ---- one M more
 -- two runs of marks agree from a mark on
 abbrev Same : List ℕ → List ℕ → ℕ → Type 0
 Same l k from = (i : ℕ) → from ≤ i → in_set l i ≡ in_set k i
@@ -65,31 +53,35 @@ module _ (bytes : List ℕ) (n : ℕ) (h : suc n ≤ 12) where
   abbrev wide : ℕ
   wide = 2 ^ (12 - suc n)
 
-  -- the marks of M = n + 1 come to those of n
-  one_more_level : (P : ℕ → ℕ → Type 0) → ((m c : ℕ) → is_group m c ≡ true → 2 ^ (12 - n) ≤ mark_of m c → P m c) → ((c : ℕ) → Group (suc n) c → P (suc n) c) →
-      (m c : ℕ) → is_group m c ≡ true → wide ≤ mark_of m c → P m c
-  one_more_level P old new m c g lo =
-      elim (dec_le (2 ^ (12 - n)) (mark_of m c)) [
+  -- the marks of the groups up to M = n lie from 2^(12-n) on
+  behind_all : (m c : ℕ) → m ≤ n → 2 ^ (12 - n) ≤ mark_of m c
+  behind_all m c l = let p : 2 ^ (12 - n) ≤ 2 ^ (12 - m) = pow_mono (omega arith) in omega arith
+
+  -- the groups up to M = n, and those of n + 1
+  one_more_level : (P : ℕ → ℕ → Type 0) → ((m c : ℕ) → is_group m c ≡ true → m ≤ n → P m c) → ((c : ℕ) → Group (suc n) c → P (suc n) c) →
+      (m c : ℕ) → is_group m c ≡ true → m ≤ suc n → P m c
+  one_more_level P old new m c g l =
+      elim (dec_le m n) [
         | yes k ↦ old m c g k
-        | no k ↦ let e : m ≡ suc n = marks_of n m c h (group_is m c g) lo (omega arith) in
+        | no k ↦ let e : m ≡ suc n = omega arith in
             subst (λ (i : ℕ). P i c) (sym e) (new c (subst (λ (i : ℕ). Group i c) e (group_is m c g)))
       ]
 
-  module _ (any₀ any : List ℕ) (o : One bytes any₀ (2 ^ (12 - n))) where
-    -- right from M = n + 1 on, where each of its marks is set as either half's is
+  module _ (any₀ any : List ℕ) (o : One bytes any₀ n) where
+    -- each mark of M = n + 1 is set as either half's is
     pub next_one : Same any any₀ (2 ^ (12 - n)) → ((c : ℕ) → Group (suc n) c → in_set any (mark_of (suc n) c) ≡ in_set any₀ (mark_of n c) || in_set any₀ (mark_of n (c + wide))) →
-        One bytes any wide
+        One bytes any (suc n)
     next_one s b =
-        one_more_level (λ (m c : ℕ). in_set any (mark_of m c) ≡ leb 1 (length (devices (in_set bytes) m c))) (λ m c g l. s (mark_of m c) l ∙ o m c g l)
+        one_more_level (λ (m c : ℕ). in_set any (mark_of m c) ≡ leb 1 (length (devices (in_set bytes) m c))) (λ m c g l. s (mark_of m c) (behind_all m c l) ∙ o m c g l)
         (λ c g. b c g ∙ ap₂ ◌||◌ (o n c (is_group_lem n c (in_lower n c g)) (omega arith)) (o n (c + wide) (is_group_lem n _ (in_upper n c g)) (omega arith))
         ∙ sym (ap (leb 1) (half_sum (in_set bytes) n c) ∙ one_of (length (devices (in_set bytes) n c)) (length (devices (in_set bytes) n (c + wide)))))
 
     -- and where it is set as either half's is, or where both halves have one
-    pub next_two : (two₀ two : List ℕ) → Two bytes two₀ (2 ^ (12 - n)) → Same two two₀ (2 ^ (12 - n)) →
+    pub next_two : (two₀ two : List ℕ) → Two bytes two₀ n → Same two two₀ (2 ^ (12 - n)) →
         ((c : ℕ) → Group (suc n) c → in_set two (mark_of (suc n) c) ≡ (in_set two₀ (mark_of n c) || in_set two₀ (mark_of n (c + wide))) || (in_set any₀ (mark_of n c) && in_set any₀ (mark_of n (c + wide)))) →
-        Two bytes two wide
+        Two bytes two (suc n)
     next_two two₀ two t s b =
-        one_more_level (λ (m c : ℕ). in_set two (mark_of m c) ≡ leb 2 (length (devices (in_set bytes) m c))) (λ m c g l. s (mark_of m c) l ∙ t m c g l)
+        one_more_level (λ (m c : ℕ). in_set two (mark_of m c) ≡ leb 2 (length (devices (in_set bytes) m c))) (λ m c g l. s (mark_of m c) (behind_all m c l) ∙ t m c g l)
         (λ c g.
         let lo = is_group_lem n c (in_lower n c g) in
         let hi = is_group_lem n _ (in_upper n c g) in
@@ -164,16 +156,16 @@ all_copied bytes any b a d =
     let n : length (drop 512 any) ≡ 512 = length-drop 512 any ∙ ap (λ (n : ℕ). n - 512) a in
     ext_get_or 0 (drop 512 any) bytes (n ∙ sym b) (λ i h. get_or-drop 512 any i 0 ∙ d i (omega arith))
 
-module _ (bytes any₀ two₀ any two : List ℕ) (w e : ℕ) (k : e ≤ 8) (p : w ≡ 2 ^ e) (q : Marked bytes any₀ two₀ (16 * w)) (l : Layered any₀ two₀ any two w w) where
+module _ (bytes any₀ two₀ any two : List ℕ) (w m : ℕ) (h : 1 ≤ m) (k : m ≤ 9) (p : w ≡ 2 ^ (9 - m)) (q : Marked bytes any₀ two₀ (m - 1)) (l : Layered any₀ two₀ any two w w) where
   -- w bytes are 8 * w marks: those of M = n₀ + 1
   abbrev n₀ : ℕ
-  n₀ = 8 - e
+  n₀ = m - 1
 
   wide_w : 2 ^ (12 - suc n₀) ≡ 8 * w
-  wide_w = ap (λ (i : ℕ). 2 ^ i) (let s : 12 - suc n₀ ≡ 3 + e = omega arith in s) ∙ pow-add 2 3 e ∙ ap (λ (i : ℕ). 8 * i) (sym p)
+  wide_w = ap (λ (i : ℕ). 2 ^ i) (let s : 12 - suc n₀ ≡ 3 + (9 - m) = omega arith in s) ∙ pow-add 2 3 (9 - m) ∙ ap (λ (i : ℕ). 8 * i) (sym p)
 
   wide_2w : 2 ^ (12 - n₀) ≡ 16 * w
-  wide_2w = ap (λ (i : ℕ). 2 ^ i) (let s : 12 - n₀ ≡ 4 + e = omega arith in s) ∙ pow-add 2 4 e ∙ ap (λ (i : ℕ). 16 * i) (sym p)
+  wide_2w = ap (λ (i : ℕ). 2 ^ i) (let s : 12 - n₀ ≡ 4 + (9 - m) = omega arith in s) ∙ pow-add 2 4 (9 - m) ∙ ap (λ (i : ℕ). 16 * i) (sym p)
 
   -- bytes that were kept are marks that were kept
   same_marks : (r r₀ : List ℕ) → ((s : ℕ) → 2 * w ≤ s → get_or r s 0 ≡ get_or r₀ s 0) → Same r r₀ (2 ^ (12 - n₀))
@@ -209,38 +201,32 @@ module _ (bytes any₀ two₀ any two : List ℕ) (w e : ℕ) (k : e ≤ 8) (p :
         ∙ ap₂ ◌||◌ (or_bit t₂ t₃ (c % 8) ∙ ap₂ ◌||◌ (sym (lower two₀)) (sym (upper two₀))) (and_bit a₂ a₃ (c % 8) ∙ ap₂ ◌&&◌ (sym (lower any₀)) (sym (upper any₀)))
 
   -- all bytes of one M are done
-  pub layer_done : Marked bytes any two (8 * w)
+  pub layer_done : Marked bytes any two m
   layer_done =
       let n : suc n₀ ≤ 12 = omega arith in
-      let o : One bytes any₀ (2 ^ (12 - n₀)) = subst (λ (x : ℕ). One bytes any₀ x) (sym wide_2w) q.ones in
-      let t : Two bytes two₀ (2 ^ (12 - n₀)) = subst (λ (x : ℕ). Two bytes two₀ x) (sym wide_2w) q.twos in
-      let b : w ≤ 256 = let s : 2 ^ e ≤ 2 ^ 8 = pow_mono k in omega arith in
+      let s : suc n₀ ≡ m = omega arith in
+      let f : w ≤ 256 = let t : 2 ^ (9 - m) ≤ 2 ^ 8 = pow_mono {j = 8} (omega arith) in omega arith in
       record {
         any_length = l.any_length;
         two_length = l.two_length;
         whole = same_rest any any₀ l.any_length q.any_length (λ s h. l.any_kept s (omega arith)) ∙ q.whole;
-        ones = subst (λ (x : ℕ). One bytes any x) wide_w (next_one bytes n₀ n any₀ any o (same_marks any any₀ l.any_kept) halves_one);
-        twos = subst (λ (x : ℕ). Two bytes two x) wide_w (next_two bytes n₀ n any₀ any o two₀ two t (same_marks two two₀ l.two_kept) halves_two);
+        ones = subst (λ (x : ℕ). One bytes any x) s (next_one bytes n₀ n any₀ any q.ones (same_marks any any₀ l.any_kept) halves_one);
+        twos = subst (λ (x : ℕ). Two bytes two x) s (next_two bytes n₀ n any₀ any q.ones two₀ two q.twos (same_marks two two₀ l.two_kept) halves_two);
       }
 
 -- ---- M = 0: the set itself
--- a mark from 4,096 on is that of one device
-only_single : (m c : ℕ) → Group m c → 4096 ≤ mark_of m c → m ≡ 0
-only_single zero c g h = refl
-only_single (suc m) c g h = absurd (let b = g.1 in let p : 2 ^ suc (12 - suc m) ≤ 2 ^ 12 = pow_mono {j = 12} (let a = g.0 in omega arith) in omega (arith, doubled (12 - suc m)))
-
 -- no mark is set behind 512 bytes
 pub beyond : (l : List ℕ) (i : ℕ) → length l ≡ 512 → 4096 ≤ i → in_set l i ≡ false
 beyond l i e h = no_bit _ (i % 8) (get_or-eq_default l 0 {n = i / 8} (omega arith))
 
 -- the set as it was copied
-pub set_marked : (any two : List ℕ) → length any ≡ 1024 → length two ≡ 512 → Marked (drop 512 any) any two 4096
+pub set_marked : (any two : List ℕ) → length any ≡ 1024 → length two ≡ 512 → Marked (drop 512 any) any two 0
 set_marked any two a t = record {
   any_length = a;
   two_length = t;
   whole = refl;
-  ones = λ m c g h. subst (λ (i : ℕ). in_set any (mark_of i c) ≡ leb 1 (length (devices (in_set (drop 512 any)) i c))) (sym (only_single m c (group_is m c g) h)) (one c);
-  twos = λ m c g h. subst (λ (i : ℕ). in_set two (mark_of i c) ≡ leb 2 (length (devices (in_set (drop 512 any)) i c))) (sym (only_single m c (group_is m c g) h)) (none c);
+  ones = λ m c g h. let z : 0 ≡ m = omega arith in subst (λ (i : ℕ). in_set any (mark_of i c) ≡ leb 1 (length (devices (in_set (drop 512 any)) i c))) z (one c);
+  twos = λ m c g h. let z : 0 ≡ m = omega arith in subst (λ (i : ℕ). in_set two (mark_of i c) ≡ leb 2 (length (devices (in_set (drop 512 any)) i c))) z (none c);
 }
   where
     one : (c : ℕ) → in_set any (4096 + c) ≡ leb 1 (length (devices (in_set (drop 512 any)) 0 c))
@@ -317,26 +303,30 @@ fold₂ x y w = bit_or (bit_or y (y / 2 ^ w)) (bit_and x (x / 2 ^ w))
 
 module _ (bytes any two : List ℕ) (x y : ℕ) (a : Top any x (fold₁ x 4) (fold₁ (fold₁ x 4) 2) (fold₁ (fold₁ (fold₁ x 4) 2) 1))
     (b : Top two y (fold₂ x y 4) (fold₂ (fold₁ x 4) (fold₂ x y 4) 2) (fold₂ (fold₁ (fold₁ x 4) 2) (fold₂ (fold₁ x 4) (fold₂ x y 4) 2) 1))
-    (o : One bytes any 8) (t : Two bytes two 8) where
+    (o : One bytes any 9) (t : Two bytes two 9) where
   -- M = 10, 11 and 12
-  top_ones : (One bytes any 4) × (One bytes any 2) × (One bytes any 1)
+  top_ones : (One bytes any 10) × (One bytes any 11) × (One bytes any 12)
   top_ones =
-      let o₄ : One bytes any 4 = next_one bytes 9 (lit≤ tt) any any o (λ i h. refl) (λ c g. either 4 any two x y a.eights b.eights c g.1 (a.fours c g.1)) in
-      let o₂ : One bytes any 2 = next_one bytes 10 (lit≤ tt) any any o₄ (λ i h. refl) (λ c g. either 2 any two _ _ a.fours b.fours c g.1 (a.twos c g.1)) in
-      let o₁ : One bytes any 1 = next_one bytes 11 (lit≤ tt) any any o₂ (λ i h. refl) (λ c g. either 1 any two _ _ a.twos b.twos c g.1 (last any _ a.ones c g.1)) in
+      let o₄ : One bytes any 10 = next_one bytes 9 (lit≤ tt) any any o (λ i h. refl) (λ c g. either 4 any two x y a.eights b.eights c g.1 (a.fours c g.1)) in
+      let o₂ : One bytes any 11 = next_one bytes 10 (lit≤ tt) any any o₄ (λ i h. refl) (λ c g. either 2 any two _ _ a.fours b.fours c g.1 (a.twos c g.1)) in
+      let o₁ : One bytes any 12 = next_one bytes 11 (lit≤ tt) any any o₂ (λ i h. refl) (λ c g. either 1 any two _ _ a.twos b.twos c g.1 (last any _ a.ones c g.1)) in
       (o₄, o₂, o₁)
 
-  top_twos : Two bytes two 1
+  top_twos : Two bytes two 12
   top_twos =
-      let t₄ : Two bytes two 4 = next_two bytes 9 (lit≤ tt) any any o two two t (λ i h. refl) (λ c g. crossed 4 any two x y a.eights b.eights c g.1 (b.fours c g.1)) in
-      let t₂ : Two bytes two 2 = next_two bytes 10 (lit≤ tt) any any top_ones.0 two two t₄ (λ i h. refl) (λ c g. crossed 2 any two _ _ a.fours b.fours c g.1 (b.twos c g.1)) in
+      let t₄ : Two bytes two 10 = next_two bytes 9 (lit≤ tt) any any o two two t (λ i h. refl) (λ c g. crossed 4 any two x y a.eights b.eights c g.1 (b.fours c g.1)) in
+      let t₂ : Two bytes two 11 = next_two bytes 10 (lit≤ tt) any any top_ones.0 two two t₄ (λ i h. refl) (λ c g. crossed 2 any two _ _ a.fours b.fours c g.1 (b.twos c g.1)) in
       next_two bytes 11 (lit≤ tt) any any top_ones.1 two two t₂ (λ i h. refl) (λ c g. crossed 1 any two _ _ a.twos b.twos c g.1 (last two _ b.ones c g.1))
 
 -- the first byte has the marks below 8
 same_but_first : (l : List ℕ) (x : ℕ) → Same (set l 0 x) l 8
 same_but_first l x i h = ap (λ (y : ℕ). bit_of y (i % 8)) (get_or-set_other l 0 (i / 8) x 0 (λ (e : i / 8 ≡ 0). omega arith))
 
-module _ (any two : List ℕ) (p r : ℕ) (q : Marked (drop 512 any) any two 8) where
+-- the marks up to M = 9 lie from 8 on
+from_8 : (m c : ℕ) → m ≤ 9 → 8 ≤ mark_of m c
+from_8 m c h = let p : 2 ^ 3 ≤ 2 ^ (12 - m) = pow_mono {i = 3} (omega arith) in omega arith
+
+module _ (any two : List ℕ) (p r : ℕ) (q : Marked (drop 512 any) any two 9) where
   abbrev x₀ : ℕ
   x₀ = get_or any 1 0
 
@@ -346,12 +336,12 @@ module _ (any two : List ℕ) (p r : ℕ) (q : Marked (drop 512 any) any two 8) 
   -- all marks
   pub top_marked : Packed (fold₁ x₀ 4) (fold₁ (fold₁ x₀ 4) 2) (fold₁ (fold₁ (fold₁ x₀ 4) 2) 1) p →
       Packed (fold₂ x₀ y₀ 4) (fold₂ (fold₁ x₀ 4) (fold₂ x₀ y₀ 4) 2) (fold₂ (fold₁ (fold₁ x₀ 4) 2) (fold₂ (fold₁ x₀ 4) (fold₂ x₀ y₀ 4) 2) 1) r →
-      Marked (drop 512 any) (set any 0 p) (set two 0 r) 1
+      Marked (drop 512 any) (set any 0 p) (set two 0 r) 12
   top_marked pa pt =
       let a = topped any _ _ _ p (let k = q.any_length in omega arith) pa in
       let b = topped two _ _ _ r (let k = q.two_length in omega arith) pt in
-      let o : One (drop 512 any) (set any 0 p) 8 = λ m c g h. same_but_first any p (mark_of m c) h ∙ q.ones m c g h in
-      let t : Two (drop 512 any) (set two 0 r) 8 = λ m c g h. same_but_first two r (mark_of m c) h ∙ q.twos m c g h in
+      let o : One (drop 512 any) (set any 0 p) 9 = λ m c g h. same_but_first any p (mark_of m c) (from_8 m c h) ∙ q.ones m c g h in
+      let t : Two (drop 512 any) (set two 0 r) 9 = λ m c g h. same_but_first two r (mark_of m c) (from_8 m c h) ∙ q.twos m c g h in
       record {
         any_length = length-set any 0 p ∙ q.any_length;
         two_length = length-set two 0 r ∙ q.two_length;
@@ -360,54 +350,19 @@ module _ (any two : List ℕ) (p r : ℕ) (q : Marked (drop 512 any) any two 8) 
         twos = top_twos (drop 512 any) (set any 0 p) (set two 0 r) x₀ y₀ a b o t;
       }
 
--- ---- the bytes of M = 2 to 9, each M half as many as the one below it
--- the marks are right from 8 * 2^e on, and the next M takes half of 2^e bytes
-pub record Down (bytes any two : List ℕ) (width : ℕ) : Type 0 where
-  pub e : ℕ
-  pub few : e ≤ 8
-  pub next : width ≡ 2 ^ e / 2
-  pub marked : Marked bytes any two (8 * 2 ^ e)
+-- where the marks end: those of all groups, and those of groups of two devices or more
+pub marks_end : (m c : ℕ) → is_group m c ≡ true → (mark_of m c < 8192) × (1 ≤ m → mark_of m c < 4096)
+marks_end m c g =
+    let t = group_is m c g in
+    let n = t.1 in (
+      omega (arith, at_most (12 - m) (omega arith)),
+      λ h. let p : 2 ^ (12 - m) ≤ 2 ^ 11 = pow_mono {j = 11} (omega arith) in omega arith,
+    )
+
+-- how many bytes the marks of one M take
+pub layer_width : (m : ℕ) → 2 ≤ m → m ≤ 9 → 512 / 2 ^ m ≤ 128
+layer_width m h k = let p : 2 ^ (9 - m) ≤ 2 ^ 7 = pow_mono {j = 7} (omega arith) in omega (arith, cut 9 m k)
 
 -- marks of a set are those of their own last bytes
-pub own : (bytes any two : List ℕ) (from : ℕ) → Marked bytes any two from → Marked (drop 512 any) any two from
-own bytes any two from q = subst (λ (l : List ℕ). Marked l any two from) (sym q.whole) q
-
-module _ (bytes any two : List ℕ) (width : ℕ) (d : Down bytes any two width) (h : 0 < width) where
-  -- there is an M more
-  one_less : (n : ℕ) × (d.e ≡ suc n)
-  one_less = go d.e d.next
-    where
-      go : (e : ℕ) → width ≡ 2 ^ e / 2 → (n : ℕ) × (e ≡ suc n)
-      go zero q = absurd (omega arith)
-      go (suc n) q = (n, refl)
-
-  -- its bytes
-  power : width ≡ 2 ^ one_less.0
-  power = let n = one_less in d.next ∙ ap (λ (i : ℕ). 2 ^ i / 2) n.1 ∙ (let s : 2 ^ suc n.0 / 2 ≡ 2 ^ n.0 = omega (arith, doubled n.0) in s)
-
-  pub width_is : Width width
-  width_is = let n = one_less in (n.0, (let f = d.few in let s = n.1 in omega arith), power)
-
-  -- what the next M asks
-  pub down_asks : Marked (drop 512 any) any two (16 * width)
-  down_asks =
-      let n = one_less in
-      own bytes any two _ (subst (λ (i : ℕ). Marked bytes any two i) (let p : 2 ^ d.e ≡ 2 ^ suc n.0 = ap (λ (i : ℕ). 2 ^ i) n.1 in let s : 8 * 2 ^ d.e ≡ 16 * width = omega (arith, power, doubled n.0) in s) d.marked)
-
-  -- one M more
-  pub down_more : (any₁ two₁ : List ℕ) → Marked (drop 512 any) any₁ two₁ (8 * width) → Down bytes any₁ two₁ (width / 2)
-  down_more any₁ two₁ q =
-      let n = one_less in record {
-        e = n.0;
-        few = let f = d.few in let s = n.1 in omega arith;
-        next = ap (λ (i : ℕ). i / 2) power;
-        marked = subst (λ (l : List ℕ). Marked l any₁ two₁ (8 * 2 ^ n.0)) d.marked.whole (subst (λ (i : ℕ). Marked (drop 512 any) any₁ two₁ (8 * i)) power q);
-      }
-
--- the last of them takes one byte
-pub down_done : (bytes any two : List ℕ) → Down bytes any two 0 → Marked bytes any two 8
-down_done bytes any two d = go d.e d.next d.marked
-  where
-    go : (e : ℕ) → 0 ≡ 2 ^ e / 2 → Marked bytes any two (8 * 2 ^ e) → Marked bytes any two 8
-    go zero q m = m
-    go (suc n) q m = absurd (omega (arith, doubled n, pow_pos n))
+pub own : (bytes any two : List ℕ) (top : ℕ) → Marked bytes any two top → Marked (drop 512 any) any two top
+own bytes any two top q = subst (λ (l : List ℕ). Marked l any two top) (sym q.whole) q
