@@ -1,36 +1,30 @@
 -- The whole list: what the loads say of the Basic Periods, and the ways out of a check.
 -- Assumes nothing.
-use Prim.Native.Nat.{ℕ, zero, suc, ◌+◌, ◌-◌, ◌*◌, ◌^◌, ◌/◌, ◌%◌, ◌≤◌, ◌<◌}
+use Prim.Native.Nat.{ℕ, zero, suc, ◌+◌, ◌-◌, ◌*◌, ◌^◌, ◌%◌, ◌≤◌, ◌<◌}
 use mathlib.Core.Path.{◌≡◌, refl, ap, sym, ◌∙◌, subst}
 use mathlib.Core.List.{List, [], ◌∷◌, ◌++◌}
 use mathlib.Core.Bool.{Bool, true, false}
-use native.Mathlib.Nat.{zero-div}
 use native.Mathlib.Omega.{arith}
 use borrow.Author.Tests.{lt-ltb, le-ltb, ltb-true, ltb-false, le-leb, lt-leb}
 use lib.Dec.{ltb, eqb}
-use lib.ListN.{length, get_or, take, drop, length-append, length-replicate, replicate, get_or-replicate, drop_of_length-le}
-use lib.Pow.{pow_pos}
-use lib.Seq.{drop-cons, get_or-take, length-take-le, take_at}
-use Rattle.refusals.specs.declared.Refusal.{Refusal}
-use Rattle.refusals.specs.Refusals.{number_of}
-use Rattle.refusals.specs.Told.{gives, refusing, refusal}
+use lib.ListN.{length, get_or, take, drop, drop_of_length-le}
+use lib.Seq.{drop-cons}
+use Rattle.refusals.specs.Told.{gives, refusal}
 use Rattle.lists.specs.declared.Header.{Header}
-use Rattle.lists.specs.declared.Part.{Part}
-use Rattle.lists.specs.declared.Part.TheVariants.{Done, Refused as Refused-part}
-use Rattle.lists.specs.declared.ListCheck.{ListCheck}
-use Rattle.lists.specs.declared.ListCheck.TheVariants.{Accepted}
 use Rattle.lists.specs.Values.{Cycle, PeriodicList, cycles_of, periods_of, by_ms, words_of}
 use Rattle.frames.specs.Words.{f_code_of}
 use Rattle.lists.specs.Rules.{rules}
 use Rattle.lists.specs.Reading.{Read, denied, took, then, within, after_ms, header_in, cycles_in, list_in}
 use Rattle.lists.specs.Sends.{cut_by, subcycles, subcycle, sent_from, sends, takes, some, overfull, crowded}
-use Rattle.lists.specs.Accepts.{none, ending, ended, accepted, after_header}
-use Rattle.lists.specs.Answers.{told_check, told_read}
-use Rattle.lists.specs.Inside.{Tells, SeenIs, bit, AllListable, weigh, WeightsOf, Loaded, GoodHead}
+use Rattle.lists.specs.Accepts.{none, ending, ended, accepted}
+use Rattle.lists.specs.Answers.{told_read}
+use Rattle.lists.specs.Inside.{GoodHead}
+use Rattle.lists.specs.Marks.{AllListable}
+use Rattle.lists.specs.Weights.{weigh, WeightsOf}
+use Rattle.lists.specs.Loads.{AreLoads}
 use Rattle.lists.proofs.HeadLaws.{in_range}
 use Rattle.lists.proofs.LoadLaws.{some_none, some_false}
 use Rattle.lists.proofs.TelegramLaws.{telegram_range}
-use Rattle.lists.proofs.WordLaws.{told_no, told_yes}
 use Rattle.lists.proofs.ThenLaws.{then_yes, yes_value}
 
 -- ---- the listed words of a Basic Period are listable
@@ -96,15 +90,23 @@ cycles_most ms = go (eqb ms 1)
     go true = omega arith
     go false = omega arith
 
-load_overfull : (head : Header) (weights load : List ℕ) (cs : List Cycle) (words : ℕ) → GoodHead head → WeightsOf head.gap weights
-    → length load ≡ periods_of head.ms → Loaded weights load cs words
-    → some (length load) (λ (j : ℕ). ltb (1500 * head.ms - head.reserve) (get_or load j 0)) ≡ overfull (record { head = head; cycles = cs })
+pub periods_power : (ms : ℕ) → periods_of ms ≡ 2 ^ (cycles_of ms - 1)
+periods_power ms = go (eqb ms 1)
+  where
+    go : (t : Bool) → by_ms t 1024 512 ≡ 2 ^ (by_ms t 11 10 - 1)
+    go true = refl
+    go false = refl
+
+pub load_overfull : (head : Header) (weights loads : List ℕ) (cs : List Cycle) → GoodHead head → WeightsOf head.gap weights → AllListable (words_of cs)
+    → (n : ℕ) → n ≡ cycles_of head.ms → length loads ≡ 2 ^ (n - 1) → AreLoads weights cs loads
+    → some (length loads) (λ (j : ℕ). ltb (1500 * head.ms - head.reserve) (get_or loads j 0)) ≡ overfull (record { head = head; cycles = cs })
 unfolding overfull
-load_overfull head weights load cs words g w l d =
-    some_same (length load) (λ j. ltb (1500 * head.ms - head.reserve) (get_or load j 0)) (λ j. ltb (1500 * head.ms) (takes head.gap (sent_from 0 j cs) + head.reserve))
-    (λ j h. ap (λ (x : ℕ). ltb (1500 * head.ms - head.reserve) x) (d.at j h ∙ weigh_is head.gap weights (sent_from 0 j cs) w (all_sent cs 0 j d.listed))
+load_overfull head weights loads cs g w a n e l d =
+    some_same (length loads) (λ j. ltb (1500 * head.ms - head.reserve) (get_or loads j 0)) (λ j. ltb (1500 * head.ms) (takes head.gap (sent_from 0 j cs) + head.reserve))
+    (λ j h. ap (λ (x : ℕ). ltb (1500 * head.ms - head.reserve) x) (d.at j h ∙ weigh_is head.gap weights (sent_from 0 j cs) w (all_sent cs 0 j a))
     ∙ more_same (1500 * head.ms - head.reserve) (1500 * head.ms) (takes head.gap (sent_from 0 j cs)) head.reserve (omega (arith, g.reserve_high)))
-    ∙ ap (λ (k : ℕ). some k (λ j. ltb (1500 * head.ms) (takes head.gap (sent_from 0 j cs) + head.reserve))) l
+    ∙ ap (λ (k : ℕ). some k (λ j. ltb (1500 * head.ms) (takes head.gap (sent_from 0 j cs) + head.reserve)))
+    (l ∙ ap (λ (k : ℕ). 2 ^ (k - 1)) e ∙ sym (periods_power head.ms))
 
 -- ---- what passes 10 passes 19
 takes_least : (gap : ℕ) (ws : List ℕ) → 4 ≤ gap → AllListable ws → 70 * length ws ≤ takes gap ws
@@ -125,140 +127,45 @@ module _ (l : PeriodicList) (g : GoodHead l.head) (a : AllListable (words_of l.c
   never_crowded = some_none (periods_of l.head.ms) (λ (j : ℕ). ltb 64 (length (sends l j))) (λ j h. le-ltb 64 (length (sends l j)) (omega (arith, at_most_41 j h)))
 
 -- ---- after the last cycle
-bytes_after : (s : List ℕ) (end : ℕ) → end < length s → none (drop end s) ≡ false
+pub bytes_after : (s : List ℕ) (end : ℕ) → end < length s → none (drop end s) ≡ false
 bytes_after s end h = rw (drop-cons s end 0 h)
 
-none_after : (s : List ℕ) (end : ℕ) → length s ≤ end → none (drop end s) ≡ true
+pub none_after : (s : List ℕ) (end : ℕ) → length s ≤ end → none (drop end s) ≡ true
 none_after s end h = ap none (drop_of_length-le s h)
 
-module _ (s : List ℕ) (head : Header) (end : ℕ) where
-  pub finish_11 : end < length s → (cs : List Cycle) → refusal 11 ≡ told_read (ended (record { head = head; cycles = cs }) (drop end s))
-  unfolding ended ending
-  finish_11 h cs = rw (bytes_after s end h)
-
-  module _ (h : length s ≤ end) (words : ℕ) (load : List ℕ) (g : GoodHead head) where
-    module _ (a : Bool) (e : a ≡ some (length load) (λ (j : ℕ). ltb (1500 * head.ms - head.reserve) (get_or load j 0))) where
-      pub finish_10 : a ≡ true → (weights : List ℕ) (cs : List Cycle) → WeightsOf head.gap weights → length load ≡ periods_of head.ms
-          → Loaded weights load cs words → refusal 10 ≡ told_read (ended (record { head = head; cycles = cs }) (drop end s))
-      unfolding ended ending
-      finish_10 t weights cs w l d =
-          let o : overfull (record { head = head; cycles = cs }) ≡ true = sym (load_overfull head weights load cs words g w l d) ∙ sym e ∙ t in
-          rw (none_after s end h, o)
-
-      pub finish_yes : a ≡ false → (weights : List ℕ) (cs : List Cycle) → WeightsOf head.gap weights → length load ≡ periods_of head.ms
-          → Loaded weights load cs words → told_check (Accepted head words) ≡ told_read (ended (record { head = head; cycles = cs }) (drop end s))
-      unfolding ended ending
-      finish_yes t weights cs w l d =
-          let o : overfull (record { head = head; cycles = cs }) ≡ false = sym (load_overfull head weights load cs words g w l d) ∙ sym e ∙ t in
-          let q : crowded (record { head = head; cycles = cs }) ≡ false = never_crowded (record { head = head; cycles = cs }) g d.listed o in
-          rw (none_after s end h, o, q) (ap (λ (k : ℕ). gives (head.ms ∷ head.gap ∷ head.reserve ∷ k ∷ [])) d.count)
-
--- ---- the cycles
-abbrev zeros : ℕ → List ℕ
-zeros n = replicate n 0
-
-pub no_marks : SeenIs (zeros 256) []
-no_marks =
-    record {
-      long = length-replicate {A = ℕ} 256 0;
-      all = tt;
-      at = λ m h. let q : m / 32 < 256 = omega arith in ap (bit (m % 32)) (get_or-replicate {A = ℕ} 256 (m / 32) 0 0 q) ∙ ap (λ (x : ℕ). x % 2) (zero-div (2 ^ (m % 32)));
-    }
-
-pub periods_power : (ms : ℕ) → periods_of ms ≡ 2 ^ (cycles_of ms - 1)
-periods_power ms = go (eqb ms 1)
-  where
-    go : (t : Bool) → by_ms t 1024 512 ≡ 2 ^ (by_ms t 11 10 - 1)
-    go true = refl
-    go false = refl
-
-pub periods_most : (ms : ℕ) → periods_of ms ≤ 1024
-periods_most ms = go (eqb ms 1)
-  where
-    go : (t : Bool) → by_ms t 1024 512 ≤ 1024
-    go true = omega arith
-    go false = omega arith
-
-cycles_least : (ms : ℕ) → 1 ≤ cycles_of ms
-cycles_least ms = go (eqb ms 1)
-  where
-    go : (t : Bool) → 1 ≤ by_ms t 11 10
-    go true = omega arith
-    go false = omega arith
-
-pub record Fresh (ms periods cycles : ℕ) (part : List ℕ) : Type 0 where
-  pub most : cycles ≤ 11
-  pub least : 1 ≤ cycles
-  pub long : length part ≡ 2 ^ (cycles - 1)
-  pub zero_first : get_or part 0 0 ≡ 0
-
-pub fresh : (ms periods cycles : ℕ) → periods ≡ periods_of ms → cycles ≡ cycles_of ms → Fresh ms periods cycles (take periods (zeros 1024))
-fresh ms periods cycles p c =
-    let m : periods ≤ length (zeros 1024) = omega (arith, periods_most ms, length-replicate {A = ℕ} 1024 0) in
-    let l : length (take periods (zeros 1024)) ≡ 2 ^ (cycles - 1) = length-take-le periods (zeros 1024) m ∙ p ∙ periods_power ms ∙ ap (λ (k : ℕ). 2 ^ (k - 1)) (sym c) in
-    let o : 0 < periods = omega (arith, p, periods_power ms, pow_pos (cycles_of ms - 1)) in
-    record {
-      most = omega (arith, cycles_most ms);
-      least = omega (arith, cycles_least ms);
-      long = l;
-      zero_first = get_or-take periods (zeros 1024) 0 0 o;
-    }
-
--- the part of the load that is lent, before and after
-module _ (ms periods : ℕ) (p : periods ≡ periods_of ms) where
-  pub periods_fit : periods ≤ 1024
-  periods_fit = omega (arith, periods_most ms)
-
-  pub part_long : periods ≡ length (take periods (zeros 1024))
-  part_long = sym (length-take-le periods (zeros 1024) (omega (arith, periods_most ms, length-replicate {A = ℕ} 1024 0)))
-
-  module _ (part : List ℕ) (k : length part ≡ length (take periods (zeros 1024))) where
-    pub part_room : periods ≤ length (part ++ drop periods (zeros 1024))
-    part_room = omega (arith, length-append part (drop periods (zeros 1024)), part_long)
-
-    pub part_back : take periods (part ++ drop periods (zeros 1024)) ≡ part
-    part_back = take_at part (drop periods (zeros 1024)) periods (k ∙ sym part_long)
-
-    pub part_again : periods ≡ length (take periods (part ++ drop periods (zeros 1024)))
-    part_again = sym (length-take-le periods (part ++ drop periods (zeros 1024)) part_room)
-
-module _ (s : List ℕ) (head : Header) (at cycles : ℕ) (c : cycles ≡ cycles_of head.ms) (weights load : List ℕ)
-    (r : Part) (t : Tells s (cycles_in rules cycles 0 [] (drop at s)) r (Loaded weights load)) where
-  pub cycles_no : (m : Refusal) → r ≡ Refused-part m → refusing m ≡ told_read (after_header head (drop at s))
-  unfolding after_header
-  cycles_no m e = rw (← c, told_no s (cycles_in rules cycles 0 [] (drop at s)) _ m (rw e at t))
-
-  after_yes : (cs : List Cycle) (end : ℕ) → cycles_in rules cycles 0 [] (drop at s) ≡ took cs (drop end s) → after_header head (drop at s) ≡ ended (record { head = head; cycles = cs }) (drop end s)
-  unfolding after_header
-  after_yes cs end q = ap (λ (k : ℕ). then (cycles_in rules k 0 [] (drop at s)) (λ cs rest. ended (record { head = head; cycles = cs }) rest)) (sym c)
-      ∙ ap (λ (x : Read (List Cycle)). then x (λ cs rest. ended (record { head = head; cycles = cs }) rest)) q
-
-  pub cycles_yes : (end words : ℕ) → r ≡ Done end words → WeightsOf head.gap weights → length load ≡ periods_of head.ms → (a : ListCheck) (load' : List ℕ) → load' ≡ load
-      → ((weights : List ℕ) (cs : List Cycle) → WeightsOf head.gap weights → length load' ≡ periods_of head.ms
-      → Loaded weights load' cs words → told_check a ≡ told_read (ended (record { head = head; cycles = cs }) (drop end s)))
-      → told_check a ≡ told_read (after_header head (drop at s))
-  cycles_yes end words e w l a load' q f =
-      let u = told_yes s (cycles_in rules cycles 0 [] (drop at s)) _ end words (rw e at t) in
-      f weights u.0 w (ap length q ∙ l) (rw q u.2) ∙ sym (ap told_read (after_yes u.0 end u.1))
-
 -- ---- the file
+-- the header is read from the start
+pub from_start : (s list : List ℕ) (at : ℕ) (r : Read Header) → at ≡ 0 → s ≡ list → header_in (drop at s) ≡ r → header_in list ≡ r
+from_start s list at r e same h = sym (ap (λ (k : ℕ). header_in (drop k s)) e ∙ ap header_in same) ∙ h
+
 module _ (s : List ℕ) where
   pub too_long : 16384 < length s → refusal 1 ≡ told_read (accepted s)
   unfolding accepted
   too_long h = rw (lt-leb (length s) 16384 h)
 
-  module _ (l : length s ≤ 16384) where
-    pub no_header : (m : Refusal) → header_in s ≡ denied (number_of m) → refusing m ≡ told_read (accepted s)
+  module _ (short : length s ≤ 16384) where
+    pub no_header : (n : ℕ) → header_in s ≡ denied n → refusal n ≡ told_read (accepted s)
     unfolding accepted list_in
-    no_header m e = rw (le-leb (length s) 16384 l, e)
+    no_header n h = rw (le-leb (length s) 16384 short, h)
 
-    pub header_yes : (h : Header) (at : ℕ) → header_in s ≡ took h (drop at s) → told_read (after_header h (drop at s)) ≡ told_read (accepted s)
-    unfolding accepted list_in after_header
-    header_yes h at e = rw (le-leb (length s) 16384 l, e) (ap told_read (sym (both (cycles_in rules (cycles_of h.ms) 0 [] (drop at s)))))
-      where
-        both : (r : Read (List Cycle)) → then (then r (λ cs end. took (record { head = h; cycles = cs }) end)) ended ≡ then r (λ cs rest. ended (record { head = h; cycles = cs }) rest)
-        both (denied n) = refl
-        both (took cs rest) = refl
+    module _ (head : Header) (after : List ℕ) (h : header_in s ≡ took head after) where
+      pub no_cycles : (n : ℕ) → cycles_in rules (cycles_of head.ms) 0 [] after ≡ denied n → refusal n ≡ told_read (accepted s)
+      unfolding accepted list_in
+      no_cycles n c = rw (le-leb (length s) 16384 short, h, c)
+
+      module _ (cs : List Cycle) (end : List ℕ) (c : cycles_in rules (cycles_of head.ms) 0 [] after ≡ took cs end) where
+        pub accepted_rest : none end ≡ false → refusal 11 ≡ told_read (accepted s)
+        unfolding accepted list_in ended ending
+        accepted_rest n = rw (le-leb (length s) 16384 short, h, c, n)
+
+        pub accepted_overfull : none end ≡ true → overfull (record { head = head; cycles = cs }) ≡ true → refusal 10 ≡ told_read (accepted s)
+        unfolding accepted list_in ended ending
+        accepted_overfull n o = rw (le-leb (length s) 16384 short, h, c, n, o)
+
+        pub accepted_all : none end ≡ true → overfull (record { head = head; cycles = cs }) ≡ false → crowded (record { head = head; cycles = cs }) ≡ false
+            → (words : ℕ) → words ≡ length (words_of cs) → gives (head.ms ∷ head.gap ∷ head.reserve ∷ words ∷ []) ≡ told_read (accepted s)
+        unfolding accepted list_in ended ending
+        accepted_all n o q words e = rw (le-leb (length s) 16384 short, h, c, n, o, q, e)
 
 pub good_head : (s : List ℕ) (h : Header) (rest : List ℕ) → header_in s ≡ took h rest → GoodHead h
 unfolding header_in after_ms

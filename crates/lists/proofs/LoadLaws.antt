@@ -10,7 +10,7 @@ use native.Mathlib.Omega.{arith}
 use lib.ListN.{get_or}
 use Rattle.timing.specs.Timing.{telegram_bits}
 use Rattle.lists.specs.Sends.{some}
-use Rattle.lists.specs.Inside.{WeightsOf}
+use Rattle.lists.specs.Weights.{WeightsOf}
 use Rattle.lists.proofs.TelegramLaws.{by_fcode}
 
 or-none : (a b : Bool) → a ≡ false → b ≡ false → (a || b) ≡ false
@@ -51,30 +51,11 @@ some_here k f e = some_one (k + 1) f k (omega arith) e
 pub some_next : (k : ℕ) (f : ℕ → Bool) (found : Bool) → f k ≡ false → found ≡ some k f → found ≡ some (k + 1) f
 some_next k f found e q = let n : k + 1 ≡ suc k = omega arith in rw (n, e) q
 
-data Small (b : ℕ) : List ℕ → Type 0 where
-  nil : Small b []
-  cons : {x : ℕ} {l : List ℕ} → x ≤ b → Small b l → Small b (x ∷ l)
-
-small_at : {b : ℕ} {l : List ℕ} → Small b l → (i : ℕ) → get_or l i 0 ≤ b
-small_at nil i = omega arith
-small_at (cons h m) zero = h
-small_at (cons h m) (suc i) = small_at m i
-
-module _ (gap a b c d e z : ℕ) where
-  abbrev pub sixteen : List ℕ
-  sixteen = a ∷ b ∷ c ∷ d ∷ e ∷ 0 ∷ 0 ∷ 0 ∷ 0 ∷ 0 ∷ 0 ∷ 0 ∷ 0 ∷ 0 ∷ 0 ∷ z ∷ []
+abbrev pub sixteen : (a b c d e z : ℕ) → List ℕ
+sixteen a b c d e z = a ∷ b ∷ c ∷ d ∷ e ∷ 0 ∷ 0 ∷ 0 ∷ 0 ∷ 0 ∷ 0 ∷ 0 ∷ 0 ∷ 0 ∷ 0 ∷ z ∷ []
 
 module _ (gap a b c d e z : ℕ) where
   pub weights_of : (a ≡ telegram_bits 0 gap) × (a ≤ 458) → (b ≡ telegram_bits 1 gap) × (b ≤ 458) → (c ≡ telegram_bits 2 gap) × (c ≤ 458)
       → (d ≡ telegram_bits 3 gap) × (d ≤ 458) → (e ≡ telegram_bits 4 gap) × (e ≤ 458) → (z ≡ telegram_bits 15 gap) × (z ≤ 458)
-      → WeightsOf gap (sixteen gap a b c d e z)
-  weights_of ha hb hc hd he hz =
-      record {
-        bounds = record {
-          long = refl;
-          most = small_at (cons ha.1 (cons hb.1 (cons hc.1 (cons hd.1 (cons he.1
-              (cons (omega arith) (cons (omega arith) (cons (omega arith) (cons (omega arith) (cons (omega arith) (cons (omega arith) (cons (omega arith) (cons (omega arith) (cons (omega arith) (cons (omega arith)
-              (cons hz.1 nil))))))))))))))));
-        };
-        at = by_fcode (λ (f : ℕ). get_or (sixteen gap a b c d e z) f 0 ≡ telegram_bits f gap) ha.0 hb.0 hc.0 hd.0 he.0 hz.0;
-      }
+      → WeightsOf gap (sixteen a b c d e z)
+  weights_of ha hb hc hd he hz = record { at = by_fcode (λ (f : ℕ). get_or (sixteen a b c d e z) f 0 ≡ telegram_bits f gap) ha.0 hb.0 hc.0 hd.0 he.0 hz.0 }

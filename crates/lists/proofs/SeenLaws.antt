@@ -4,15 +4,16 @@ use Prim.Native.Nat.{ℕ, zero, suc, ◌+◌, ◌*◌, ◌^◌, ◌/◌, ◌%◌
 use mathlib.Core.Path.{◌≡◌, refl, ap, sym, ◌∙◌, subst}
 use mathlib.Core.List.{List, [], ◌∷◌, ◌++◌}
 use mathlib.Core.Bool.{Bool, true, false, not, ◌&&◌, ◌||◌}
+use native.Mathlib.Nat.{zero-div}
 use native.Mathlib.Omega.{arith}
 use borrow.Author.Tests.{lt-ltb, le-ltb, ltb-true, eqb-true, eqb-false, eq-eqb, ne_eqb}
 use lib.Dec.{eqb, eqb-zero-suc, eqb-suc-zero, eqb-suc-suc}
-use lib.ListN.{length, get_or, set, length-set}
+use lib.ListN.{length, get_or, set, length-set, length-replicate, replicate, get_or-replicate}
 use lib.Pow.{shr-shr, shl_exact}
 use lib.Seq.{get_or-set_same, get_or-set_other}
 use Rattle.frames.specs.Words.{f_code_of, address}
 use Rattle.lists.specs.Rules.{process_data, listable, clash, clashes}
-use Rattle.lists.specs.Inside.{mark_by, mark_of, marked, bit, flag, AllListable, SeenIs}
+use Rattle.lists.specs.Marks.{mark_by, mark_of, marked, bit, flag, AllListable, SeenIs}
 
 -- ---- a bit of a number
 half : (x j : ℕ) → x / 2 ^ suc j ≡ x / 2 / 2 ^ j
@@ -48,6 +49,14 @@ pub one_bit : (k : ℕ) → k < 32 → 1 * 2 ^ k % 4294967296 ≡ 2 ^ k
 one_bit k h = shl_exact 1 k 32 (omega arith) (omega arith) ∙ omega arith
 
 -- ---- marks
+pub no_marks : SeenIs (replicate 256 0) []
+no_marks =
+    record {
+      long = length-replicate {A = ℕ} 256 0;
+      all = tt;
+      at = λ m h. let q : m / 32 < 256 = omega arith in ap (bit (m % 32)) (get_or-replicate {A = ℕ} 256 (m / 32) 0 0 q) ∙ ap (λ (x : ℕ). x % 2) (zero-div (2 ^ (m % 32)));
+    }
+
 pub mark_process : (w : ℕ) → w < 20480 → (w % 4096 ≡ mark_of w) × (w % 4096 < 8192)
 unfolding mark_of
 mark_process w h = (simp (lt-ltb (w / 4096) 5 (omega arith)), omega arith)

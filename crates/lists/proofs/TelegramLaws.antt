@@ -12,7 +12,7 @@ use Rattle.refusals.specs.Told.{gives, refusing}
 use Rattle.refusals.proofs.Apart.{never_both}
 use Rattle.rows.specs.Rows.{reserved, data_bits, data_bytes, blocks, frame_bytes, line_bits}
 use Rattle.timing.specs.Timing.{telegram_bits, telegram_answer}
-use Rattle.lists.specs.Inside.{Listable}
+use Rattle.lists.specs.Weights.{Listable}
 
 -- what holds of F_codes 0 to 4 and 15 holds of every listed word's
 pub by_fcode : (P : ℕ → Type 0) → P 0 → P 1 → P 2 → P 3 → P 4 → P 15 → (f : ℕ) → Listable f → P f

@@ -1,10 +1,9 @@
 -- The whole list file: accepted, or refused with which number (document 01, "The list file").
 -- Assumes nothing.
 use Rattle.std.specs.Prelude.{ℕ, List, [], ◌∷◌, Bool, true, false, not, length, leb}
-use Rattle.lists.specs.declared.Header.{Header}
-use Rattle.lists.specs.Values.{PeriodicList, cycles_of}
+use Rattle.lists.specs.Values.{PeriodicList}
 use Rattle.lists.specs.Rules.{Check, unless, also, rules}
-use Rattle.lists.specs.Reading.{Read, then, when, took, cycles_in, list_in}
+use Rattle.lists.specs.Reading.{Read, then, when, took, list_in}
 use Rattle.lists.specs.Sends.{overfull, crowded}
 
 -- "Nothing follows"
@@ -23,7 +22,3 @@ ended l rest = when (ending l rest) (took l rest)
 -- "1 for the file", "at most 16,384 bytes"; then its numbers; then what follows the last cycle
 unfoldable pub accepted : List ℕ → Read PeriodicList
 accepted bytes = when (unless 1 (leb (length bytes) 16384)) (then (list_in rules bytes) ended)
-
--- the same after the header
-unfoldable pub after_header : Header → List ℕ → Read PeriodicList
-after_header h bytes = then (cycles_in rules (cycles_of h.ms) 0 [] bytes) (λ cs rest. ended (record { head = h; cycles = cs }) rest)

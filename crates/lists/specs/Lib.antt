@@ -5,3 +5,7 @@ pub mod Sends
 pub mod Accepts
 pub mod Answers
 pub mod Inside
+pub mod Marks
+pub mod Weights
+pub mod Loads
+pub mod Cycles

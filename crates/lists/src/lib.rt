@@ -3,22 +3,23 @@
 
 mod cycles;
 mod head;
-mod load;
+mod loads;
 mod seen;
-mod splits;
+mod weights;
 mod words;
 
-ghost use Rattle.std.specs.Prelude.{◌≡◌, List, ℕ, length, drop};
-ghost use Rattle.lists.specs.Values.{Cycle, cycles_of, periods_of};
-ghost use Rattle.lists.specs.Accepts.{accepted, ended, after_header};
-ghost use Rattle.lists.specs.Answers.{told_check, told_read};
-ghost use Rattle.lists.specs.Inside.{GoodHead, WeightsOf, Loaded};
+ghost use Rattle.std.specs.Prelude.{◌≡◌};
+ghost use Rattle.refusals.specs.Told.{told};
+ghost use Rattle.lists.specs.Values.{cycles_of, periods_of};
+ghost use Rattle.lists.specs.Accepts.{accepted};
+ghost use Rattle.lists.specs.Answers.{header_and_words, told_read};
 
-use crate::cycles::read_cycles;
+use crate::cycles::Cycles;
 use crate::head::read_header;
-use crate::load::{overfull, weights};
+use numbers::Reader;
 use refusals::Refusal;
 
+// The Basic Period in ms, and the gap per telegram and the sporadic reserve in bit times.
 #[derive(Clone, Copy)]
 pub struct Header {
     pub ms: u16,
@@ -26,24 +27,11 @@ pub struct Header {
     pub reserve: u16,
 }
 
-#[derive(Clone, Copy)]
-pub(crate) enum HeadRead {
-    Head(Header, usize),
-    Refused(Refusal),
-}
-
-// The place after a part of the list, and how many words the part has.
-#[derive(Clone, Copy)]
-pub(crate) enum Part {
-    Done(usize, usize),
-    Refused(Refusal),
-}
-
 // An accepted list's header and its number of words.
 #[derive(Clone, Copy)]
-pub enum ListCheck {
-    Accepted(Header, usize),
-    Refused(Refusal),
+pub struct Accepted {
+    pub header: Header,
+    pub words: usize,
 }
 
 // How many cycles a list has.
@@ -60,60 +48,34 @@ pub fn periods_of(ms: u16) -> usize
     if ms == 1 { 1024 } else { 512 }
 }
 
-// After the last cycle: 11, then 10. What passes 10 never gets 19: no more than 41 words fit into a Basic Period.
-#[tactic(auto, using(crate::proofs::ListLaws::finish_11))]
-fn finish(s: &[u8], head: Header, end: usize, words: usize, load: &[u32]) -> ListCheck
-    requires { GoodHead head }
-    ensures { (weights : List ℕ) (cs : List Cycle) → WeightsOf head.gap weights → length load.now ≡ periods_of head.ms
-        → Loaded weights load.now cs words → told_check result ≡ told_read (ended (record { head = head; cycles = cs }) (drop end s.now)) }
-{
-    if end < s.len() {
-        return ListCheck::Refused(Refusal::BytesAfterList);
-    }
-    let ms = head.ms;
-    let reserve = head.reserve;
-    if overfull(load, (1500 * ms - reserve) as u32) {
-        return ListCheck::Refused(Refusal::PeriodOverfull);
-    }
-    ListCheck::Accepted(head, words)
-}
-
-// The cycles of a list, and what follows them.
-fn check_cycles(s: &[u8], head: Header, at: usize) -> ListCheck
-    requires { GoodHead head }
-    ensures { told_check result ≡ told_read (after_header head (drop at s.now)) }
-{
-    let ms = head.ms;
-    let gap = head.gap;
-    let periods = periods_of(ms);
-    let by_f_code = weights(gap);
-    let mut seen = [0u32; 256];
-    let mut load = [0u32; 1024];
-    let r = read_cycles(
-        s,
-        at,
-        cycles_of(ms),
-        &by_f_code,
-        &mut seen,
-        &mut load[..periods],
-    );
-    match r {
-        Part::Refused(n) => ListCheck::Refused(n),
-        Part::Done(end, words) => finish(s, head, end, words, &load[..periods]),
-    }
-}
-
-// Is a list accepted.
-#[tactic(auto, using(crate::proofs::ListLaws::too_long, crate::proofs::ListLaws::no_header, crate::proofs::ListLaws::header_yes))]
-pub fn list_check(list: &[u8]) -> ListCheck
-    ensures { told_check result ≡ told_read (accepted list.now) }
+// Is a list accepted. After the last cycle: 11, then 10. What passes 10 never gets 19: no more than 41 words fit into
+// a Basic Period.
+pub fn list_check(list: &[u8]) -> Result<Accepted, Refusal>
+    ensures { told header_and_words result ≡ told_read (accepted list.now) }
 {
     if 16384 < list.len() {
-        return ListCheck::Refused(Refusal::WrongLength);
+        return Err(Refusal::WrongLength);
     }
-    let h = read_header(list);
-    match h {
-        HeadRead::Refused(n) => ListCheck::Refused(n),
-        HeadRead::Head(head, at) => check_cycles(list, head, at),
+    let mut reader = Reader::new(list, 0);
+    let header = match read_header(&mut reader) {
+        Ok(header) => header,
+        Err(refusal) => return Err(refusal),
+    };
+    let mut cycles = Cycles::new(header.gap);
+    if let Err(refusal) = cycles.read(&mut reader, cycles_of(header.ms)) {
+        return Err(refusal);
     }
+    if reader.at < reader.src.len() {
+        return Err(Refusal::BytesAfterList);
+    }
+    if cycles
+        .loads
+        .any_above((1500 * header.ms - header.reserve) as u32)
+    {
+        return Err(Refusal::PeriodOverfull);
+    }
+    Ok(Accepted {
+        header,
+        words: cycles.count,
+    })
 }

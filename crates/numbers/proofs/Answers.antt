@@ -1,18 +1,18 @@
 -- What an answer says of the number at its place; and answers that tell the same are the same.
 -- Assumes nothing.
 use Prim.Native.Nat.{ℕ, ◌+◌}
-use mathlib.Core.Path.{◌≡◌, refl, ap, sym}
+use mathlib.Core.Path.{◌≡◌, refl, ap, sym, ◌∙◌}
 use mathlib.Core.List.{List, [], ◌∷◌}
 use native.Mathlib.Omega.{arith}
 use lib.ListN.{drop}
+use lib.Seq.{drop-drop}
 use Rattle.refusals.specs.declared.Refusal.{Refusal}
+use Rattle.refusals.specs.declared.Refusal.TheVariants.{BadNumber}
+use Rattle.refusals.proofs.Apart.{numbers_apart}
 use Rattle.refusals.specs.Refusals.{number_of}
 use Rattle.refusals.specs.Told.{gives, refusing}
-use Rattle.refusals.proofs.Apart.{refusals_apart, never_both}
-use Rattle.numbers.specs.declared.Number.{Number}
-use Rattle.numbers.specs.declared.Number.TheVariants.{Value, Refused}
 use Rattle.numbers.specs.Number.{Taken, bad, taken, number, from, number_at}
-use Rattle.numbers.specs.Answers.{told_number}
+use Rattle.numbers.specs.Answers.{value_and_place}
 
 pub record Got (s : List ℕ) (at v next : ℕ) : Type 0 where
   pub bytes : ℕ
@@ -40,8 +40,14 @@ pub none : (s : List ℕ) (at : ℕ) (m : Refusal) → refusing m ≡ number_at 
 unfolding number_at
 none s at m e = from_refused at m (number (drop at s)) e
 
-pub numbers_apart : (a b : Number) → told_number a ≡ told_number b → a ≡ b
-numbers_apart (Value v p) (Value w q) e = let x : v ≡ w = cc in let y : p ≡ q = cc in cc
-numbers_apart (Value v p) (Refused m) e = absurd (never_both (v ∷ p ∷ []) m e)
-numbers_apart (Refused m) (Value v p) e = absurd (never_both (v ∷ p ∷ []) m (sym e))
-numbers_apart (Refused m) (Refused n) e = ap Refused (refusals_apart m n e)
+pub values_apart : (x y : ℕ × ℕ) → value_and_place x ≡ value_and_place y → x ≡ y
+values_apart x y e = let v : x.0 ≡ y.0 = cc in let p : x.1 ≡ y.1 = cc in λ i. (v i, p i)
+
+-- what a reader that has moved yields of the bytes before it
+pub yields : (s s' : List ℕ) (at v next : ℕ) → gives (v ∷ next ∷ []) ≡ number_at s at → s' ≡ s → (n : ℕ) × (number (drop at s) ≡ taken v n) × (drop next s' ≡ drop n (drop at s))
+yields s s' at v next e same =
+    let g = got s at v next e in
+    (g.bytes, g.is, ap (drop next) same ∙ ap (λ (k : ℕ). drop k s) g.there ∙ sym (drop-drop g.bytes at s))
+
+pub yields_none : (s : List ℕ) (at : ℕ) (m : Refusal) → refusing m ≡ number_at s at → (number (drop at s) ≡ bad) × (m ≡ BadNumber)
+yields_none s at m e = let n = none s at m e in (n.0, numbers_apart m BadNumber n.1)

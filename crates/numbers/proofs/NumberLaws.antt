@@ -1,16 +1,14 @@
 -- What the number at the front of some bytes is, by its bytes; and the same at a place.
 -- Assumes nothing.
 use Prim.Native.Nat.{ℕ, zero, suc, ◌+◌, ◌-◌, ◌*◌, ◌≤◌, ◌<◌}
-use mathlib.Core.Path.{◌≡◌, refl, ap, ◌∙◌}
+use mathlib.Core.Path.{◌≡◌, refl, ap, sym, ◌∙◌}
 use mathlib.Core.List.{List, [], ◌∷◌}
 use mathlib.Core.Bool.{Bool, true, false}
-use native.Mathlib.Numerals.{add-one}
 use native.Mathlib.Omega.{arith}
 use borrow.Author.Tests.{lt-ltb, le-ltb, ltb-true, ltb-false}
-use lib.ListN.{length, get_or, drop, drop_of_length-le}
-use lib.Seq.{drop-cons}
+use lib.ListN.{length, get_or, drop_of_length-le}
 use lib.Dec.{ltb}
-use Rattle.refusals.specs.Told.{gives, refusal}
+use Rattle.refusals.specs.Told.{refusal}
 use Rattle.numbers.specs.Number.{Groups, cut, whole, under, by_top, groups, bad, taken, judged, number, from, number_at}
 
 -- where the last group is not 0, the value is not 0
@@ -120,60 +118,59 @@ module _ (a : ℕ) (m : 128 ≤ a) where
             ap judged (both (c ∷ l) ∙ ap (λ (g : Groups). under a (under b g)) (more_groups c l (ltb-false c 128 q)))
             ∙ too_many a b c (groups l) (big l)
 
--- ---- at a place
-module _ (s : List ℕ) (at : ℕ) where
-  byte : at < length s → drop at s ≡ get_or s at 0 ∷ drop (at + 1) s
-  byte h = rw (add-one, drop-cons s at 0)
+-- ---- at the front of some bytes
+pub front-end : (s : List ℕ) → length s < 1 → bad ≡ number s
+unfolding number
+front-end [] h = refl
+front-end (a ∷ s) h = absurd (omega arith)
 
-  pub at-end : length s ≤ at → number_at s at ≡ refusal 5
-  unfolding number_at
-  at-end h = ap (λ (l : List ℕ). from at (number l)) (drop_of_length-le s h) ∙ ap (from at) none_left
+pub front_one : (s : List ℕ) → 1 ≤ length s → get_or s 0 0 < 128 → taken (get_or s 0 0) 1 ≡ number s
+front_one [] n h = absurd (omega arith)
+front_one (a ∷ l) n h = sym (one_byte a l h)
 
-  pub at_one : at < length s → get_or s at 0 < 128 → number_at s at ≡ gives (get_or s at 0 ∷ (at + 1) ∷ [])
-  unfolding number_at
-  at_one h l = ap (from at) (ap number (byte h) ∙ one_byte (get_or s at 0) (drop (at + 1) s) l)
+pub front_cut_one : (s : List ℕ) → length s < 2 → 128 ≤ get_or s 0 0 → bad ≡ number s
+front_cut_one [] n h = absurd (omega arith)
+front_cut_one (a ∷ []) n h = sym (cut_one a h)
+front_cut_one (a ∷ b ∷ l) n h = absurd (omega arith)
 
-module _ (s : List ℕ) (at : ℕ) (h : at < length s) (m : 128 ≤ get_or s at 0) where
-  pub at_cut_one : length s ≤ at + 1 → number_at s at ≡ refusal 5
-  unfolding number_at
-  at_cut_one e = ap (from at) (ap number (byte s at h) ∙ ap (λ (l : List ℕ). number (get_or s at 0 ∷ l)) (drop_of_length-le s e) ∙ cut_one (get_or s at 0) m)
+pub front_zero_two : (s : List ℕ) → 2 ≤ length s → 128 ≤ get_or s 0 0 → get_or s 1 0 ≡ 0 → bad ≡ number s
+front_zero_two [] n h e = absurd (omega arith)
+front_zero_two (a ∷ []) n h e = absurd (omega arith)
+front_zero_two (a ∷ b ∷ l) n h e = sym (zero_two a h b l e)
 
-  module _ (i : at + 1 < length s) where
-    bytes_two : drop at s ≡ get_or s at 0 ∷ get_or s (at + 1) 0 ∷ drop (at + 2) s
-    bytes_two =
-        let e : at + 1 + 1 ≡ at + 2 = omega arith in
-        byte s at h ∙ ap (λ (l : List ℕ). get_or s at 0 ∷ l) (byte s (at + 1) i ∙ ap (λ (k : ℕ). get_or s (at + 1) 0 ∷ drop k s) e)
+pub front_two : (s : List ℕ) → 2 ≤ length s → get_or s 0 0 < 256 → 128 ≤ get_or s 0 0 → 0 < get_or s 1 0 → get_or s 1 0 < 128 → taken (get_or s 0 0 - 128 + 128 * get_or s 1 0) 2 ≡ number s
+front_two [] n w h p k = absurd (omega arith)
+front_two (a ∷ []) n w h p k = absurd (omega arith)
+front_two (a ∷ b ∷ l) n w h p k = sym (two_bytes a h b l w p k)
 
-    pub at_zero_two : get_or s (at + 1) 0 ≡ 0 → number_at s at ≡ refusal 5
-    unfolding number_at
-    at_zero_two e = ap (from at) (ap number bytes_two ∙ zero_two (get_or s at 0) m (get_or s (at + 1) 0) (drop (at + 2) s) e)
+pub front_cut_two : (s : List ℕ) → length s < 3 → 128 ≤ get_or s 0 0 → 128 ≤ get_or s 1 0 → bad ≡ number s
+front_cut_two [] n h k = absurd (omega arith)
+front_cut_two (a ∷ []) n h k = absurd (omega arith)
+front_cut_two (a ∷ b ∷ []) n h k = sym (cut_two a h b k)
+front_cut_two (a ∷ b ∷ c ∷ l) n h k = absurd (omega arith)
 
-    pub at_two : get_or s at 0 < 256 → 0 < get_or s (at + 1) 0 → get_or s (at + 1) 0 < 128 → number_at s at ≡ gives ((get_or s at 0 - 128 + 128 * get_or s (at + 1) 0) ∷ (at + 2) ∷ [])
-    unfolding number_at
-    at_two w p l = ap (from at) (ap number bytes_two ∙ two_bytes (get_or s at 0) m (get_or s (at + 1) 0) (drop (at + 2) s) w p l)
+pub front_zero_three : (s : List ℕ) → 3 ≤ length s → 128 ≤ get_or s 0 0 → 128 ≤ get_or s 1 0 → get_or s 2 0 ≡ 0 → bad ≡ number s
+front_zero_three [] n h k e = absurd (omega arith)
+front_zero_three (a ∷ []) n h k e = absurd (omega arith)
+front_zero_three (a ∷ b ∷ []) n h k e = absurd (omega arith)
+front_zero_three (a ∷ b ∷ c ∷ l) n h k e = sym (zero_three a h b k c l e)
 
-    module _ (n : 128 ≤ get_or s (at + 1) 0) where
-      pub at_cut_two : length s ≤ at + 2 → number_at s at ≡ refusal 5
-      unfolding number_at
-      at_cut_two e =
-          ap (from at) (ap number (bytes_two ∙ ap (λ (l : List ℕ). get_or s at 0 ∷ get_or s (at + 1) 0 ∷ l) (drop_of_length-le s e)) ∙ cut_two (get_or s at 0) m (get_or s (at + 1) 0) n)
+pub front_above : (s : List ℕ) → 3 ≤ length s → 128 ≤ get_or s 0 0 → 128 ≤ get_or s 1 0 → 3 < get_or s 2 0 → bad ≡ number s
+front_above [] n h k e = absurd (omega arith)
+front_above (a ∷ []) n h k e = absurd (omega arith)
+front_above (a ∷ b ∷ []) n h k e = absurd (omega arith)
+front_above (a ∷ b ∷ c ∷ l) n h k e = sym (above_three a h b k c l e)
 
-      module _ (j : at + 2 < length s) where
-        bytes_three : drop at s ≡ get_or s at 0 ∷ get_or s (at + 1) 0 ∷ get_or s (at + 2) 0 ∷ drop (at + 3) s
-        bytes_three =
-            let e : at + 2 + 1 ≡ at + 3 = omega arith in
-            bytes_two ∙ ap (λ (l : List ℕ). get_or s at 0 ∷ get_or s (at + 1) 0 ∷ l) (byte s (at + 2) j ∙ ap (λ (k : ℕ). get_or s (at + 2) 0 ∷ drop k s) e)
+pub front_three : (s : List ℕ) → 3 ≤ length s → get_or s 0 0 < 256 → get_or s 1 0 < 256 → 128 ≤ get_or s 0 0 → 128 ≤ get_or s 1 0 → 0 < get_or s 2 0 → get_or s 2 0 ≤ 3
+    → taken (get_or s 0 0 - 128 + 128 * (get_or s 1 0 - 128 + 128 * get_or s 2 0)) 3 ≡ number s
+front_three [] n wa wb h k p m = absurd (omega arith)
+front_three (a ∷ []) n wa wb h k p m = absurd (omega arith)
+front_three (a ∷ b ∷ []) n wa wb h k p m = absurd (omega arith)
+front_three (a ∷ b ∷ c ∷ l) n wa wb h k p m = sym (three_bytes a h b k c l wa wb p m)
 
-        pub at_zero_three : get_or s (at + 2) 0 ≡ 0 → number_at s at ≡ refusal 5
-        unfolding number_at
-        at_zero_three e = ap (from at) (ap number bytes_three ∙ zero_three (get_or s at 0) m (get_or s (at + 1) 0) n (get_or s (at + 2) 0) (drop (at + 3) s) e)
+pub ruleset at_front = (front-end, front_one, front_cut_one, front_zero_two, front_two, front_cut_two, front_zero_three, front_above, front_three)
 
-        pub at_above : 3 < get_or s (at + 2) 0 → number_at s at ≡ refusal 5
-        unfolding number_at
-        at_above e = ap (from at) (ap number bytes_three ∙ above_three (get_or s at 0) m (get_or s (at + 1) 0) n (get_or s (at + 2) 0) (drop (at + 3) s) e)
-
-        pub at_three : get_or s at 0 < 256 → get_or s (at + 1) 0 < 256 → 0 < get_or s (at + 2) 0 → get_or s (at + 2) 0 ≤ 3
-            → number_at s at ≡ gives ((get_or s at 0 - 128 + 128 * (get_or s (at + 1) 0 - 128 + 128 * get_or s (at + 2) 0)) ∷ (at + 3) ∷ [])
-        unfolding number_at
-        at_three wa wb p l =
-            ap (from at) (ap number bytes_three ∙ three_bytes (get_or s at 0) m (get_or s (at + 1) 0) n (get_or s (at + 2) 0) (drop (at + 3) s) wa wb p l)
+-- ---- past the end
+pub past_end : (s : List ℕ) (at : ℕ) → length s < at → number_at s at ≡ refusal 5
+unfolding number_at
+past_end s at h = ap (λ (l : List ℕ). from at (number l)) (drop_of_length-le s (omega arith)) ∙ ap (from at) none_left

@@ -1,73 +1,52 @@
 // The numbers of the list file, in groups of seven bits, and the reader that yields them.
 #![tactic(auto)]
 
-ghost use Rattle.std.specs.Prelude.{◌≡◌, ◌++◌, ◌+◌, ◌-◌, ◌*◌, ◌≤◌, ◌<◌, length, drop};
-ghost use Rattle.numbers.specs.Number.{number_at, run, sum};
-ghost use Rattle.numbers.specs.Answers.{told_number};
+ghost use Rattle.std.specs.Prelude.{◌≡◌, ◌++◌, ◌+◌, ◌≤◌, length, drop, IfSome, OnErr};
+ghost use Rattle.refusals.specs.Told.{told};
+ghost use Rattle.numbers.specs.Number.{number, number_at, run, sum};
+ghost use Rattle.numbers.specs.Answers.{taken_of, value_and_place, value_then, left, Yields};
 
 use refusals::Refusal;
 
-// A number and the place after it.
-#[derive(Clone, Copy)]
-pub enum Number {
-    Value(u16, usize),
-    Refused(Refusal),
-}
-
-fn one(a: u8) -> u16
-    ensures { result ≡ a }
+// The number at the front of some bytes, and how many bytes it has.
+#[tactic(auto, using(crate::proofs::NumberLaws::at_front))]
+fn first_number(bytes: &[u8]) -> Option<(u16, usize)>
+    ensures number { taken_of result ≡ number bytes.now }
+    ensures inside { IfSome result (λ taken. taken.1 ≤ length bytes.now) }
 {
-    a as u16
-}
-
-fn two(a: u8, b: u8) -> u16
-    requires { (128 ≤ a) × (b < 128) }
-    ensures { result ≡ a - 128 + 128 * b }
-{
-    (a as u16) - 128 + 128 * (b as u16)
-}
-
-fn three(a: u8, b: u8, c: u8) -> u16
-    requires { (128 ≤ a) × (128 ≤ b) × (c ≤ 3) }
-    ensures { result ≡ a - 128 + 128 * (b - 128 + 128 * c) }
-{
-    (a as u16) - 128 + 128 * ((b as u16) - 128 + 128 * (c as u16))
-}
-
-// The number that starts at a place.
-#[tactic(auto, using(crate::proofs::Uses::at_place))]
-pub fn number_at(s: &[u8], at: usize) -> Number
-    ensures { told_number result ≡ number_at s.now at }
-{
-    if s.len() <= at {
-        return Number::Refused(Refusal::BadNumber);
-    }
-    let a = s[at];
+    let &[a, ..] = bytes else { return None };
     if a < 128 {
-        return Number::Value(one(a), at + 1);
+        return Some((a as u16, 1));
     }
-    let left = s.len() - at;
-    if left < 2 {
-        return Number::Refused(Refusal::BadNumber);
-    }
-    let b = s[at + 1];
+    let &[_, b, ..] = bytes else { return None };
     if b == 0 {
-        return Number::Refused(Refusal::BadNumber);
+        return None;
     }
     if b < 128 {
-        return Number::Value(two(a, b), at + 2);
+        return Some((a as u16 - 128 + 128 * b as u16, 2));
     }
-    if left < 3 {
-        return Number::Refused(Refusal::BadNumber);
-    }
-    let c = s[at + 2];
+    let &[_, _, c, ..] = bytes else { return None };
     if c == 0 {
-        return Number::Refused(Refusal::BadNumber);
+        return None;
     }
     if 3 < c {
-        return Number::Refused(Refusal::BadNumber);
+        return None;
     }
-    Number::Value(three(a, b, c), at + 3)
+    Some((a as u16 - 128 + 128 * (b as u16 - 128 + 128 * c as u16), 3))
+}
+
+// The number that starts at a place, and the place after it.
+#[tactic(auto, using(crate::proofs::NumberLaws::past_end), unfolding(crate::specs::Number::number_at))]
+pub fn number_at(s: &[u8], at: usize) -> Result<(u16, usize), Refusal>
+    ensures { told value_and_place result ≡ number_at s.now at }
+{
+    if s.len() < at {
+        return Err(Refusal::BadNumber);
+    }
+    let Some((value, len)) = first_number(&s[at..]) else {
+        return Err(Refusal::BadNumber);
+    };
+    Ok((value, at + len))
 }
 
 // Carries the list's bytes and its place.
@@ -84,19 +63,32 @@ impl<'a> Reader<'a> {
         Reader { src, at }
     }
 
-    // The number at the reader's place.
-    pub fn next(self) -> Number
-        ensures { told_number result ≡ number_at self.entry.src.now self.entry.at }
+    // The number at the reader's place. The reader stands after it then, or where it stood if there is none.
+    #[tactic(auto, using(crate::proofs::Answers::yields, crate::proofs::Answers::yields_none))]
+    pub fn next(&mut self) -> Result<u16, Refusal>
+        ensures value { told (value_then self.new.at) result ≡ number_at self.old.src.now self.old.at }
+        ensures bytes { self.new.src ≡ self.old.src }
+        ensures err { OnErr result (self.new.at ≡ self.old.at) }
+        ensures left { Yields result (left self.old) (left self.new) }
     {
-        number_at(self.src, self.at)
+        let (value, next) = match number_at(self.src, self.at) {
+            Ok(read) => read,
+            Err(refusal) => return Err(refusal),
+        };
+        self.at = next;
+        Ok(value)
     }
 }
 
 // The next number through a reader, for callers that keep bytes and place apart.
-pub fn read_number(s: &[u8], at: usize) -> Number
-    ensures { told_number result ≡ number_at s.now at }
+pub fn read_number(s: &[u8], at: usize) -> Result<(u16, usize), Refusal>
+    ensures { told value_and_place result ≡ number_at s.now at }
 {
-    Reader::new(s, at).next()
+    let mut reader = Reader::new(s, at);
+    match reader.next() {
+        Ok(value) => Ok((value, reader.at)),
+        Err(refusal) => Err(refusal),
+    }
 }
 
 // How many numbers were read, and the place after them.
@@ -107,25 +99,24 @@ pub struct Run {
 }
 
 // Numbers one after another, as far as they go and out has places for them.
-#[tactic(auto, using(crate::proofs::RunLaws::stop, crate::proofs::Answers::none))]
 pub fn read_numbers(s: &[u8], at: usize, out: &mut [u16]) -> Run
     ensures { (result.count ≡ length (run (length out.old) (drop at s.now)).values) × (result.next ≡ at + (run (length out.old) (drop at s.now)).used)
         × (out.new ≡ (run (length out.old) (drop at s.now)).values ++ drop (length (run (length out.old) (drop at s.now)).values) out.old) }
 {
-    let mut p = at;
-    let mut i = 0;
-    while i < out.len() {
-        let r = read_number(s, p);
-        match r {
-            Number::Refused(_) => return Run { count: i, next: p },
-            Number::Value(v, next) => {
-                out[i] = v;
-                p = next;
-            }
-        }
-        i += 1;
+    let mut reader = Reader::new(s, at);
+    for (i, place) in out.iter_mut().enumerate() {
+        let Ok(value) = reader.next() else {
+            return Run {
+                count: i,
+                next: reader.at,
+            };
+        };
+        *place = value;
     }
-    Run { count: i, next: p }
+    Run {
+        count: out.len(),
+        next: reader.at,
+    }
 }
 
 // What some numbers add up to, and the place after them.
@@ -136,23 +127,17 @@ pub struct Summed {
 }
 
 // At most k numbers one after another, as far as they go, added up.
-#[tactic(auto, using(crate::proofs::RunLaws::adding_stop, crate::proofs::Answers::none))]
 pub fn sum_numbers(s: &[u8], at: usize, k: u16) -> Summed
     ensures { (result.total ≡ sum (run k (drop at s.now)).values) × (result.next ≡ at + (run k (drop at s.now)).used) }
 {
-    let mut place = at;
+    let mut reader = Reader::new(s, at);
     let mut total: usize = 0;
-    let mut i: u16 = 0;
-    while i < k {
-        let r = read_number(s, place);
-        match r {
-            Number::Refused(_) => return Summed { total, next: place },
-            Number::Value(v, next) => {
-                total += v as usize;
-                place = next;
-            }
-        }
-        i += 1;
+    for _ in 0..k {
+        let Ok(value) = reader.next() else { break };
+        total += value as usize;
     }
-    Summed { total, next: place }
+    Summed {
+        total,
+        next: reader.at,
+    }
 }
