@@ -1,7 +1,8 @@
 // What the programs that test print: answers, and the hash of what was lent.
 #![tactic(auto)]
 
-ghost use Rattle.std.specs.Prelude.{◌≡◌, ◌*◌, ◌%◌, ◌^◌, fold, bit_xor};
+ghost use Rattle.std.specs.Prelude.{◌≡◌, []};
+ghost use Rattle.cases.specs.Hash.{hashed, hash_of, hash_of_numbers};
 
 use refusals::Refusal;
 use std::fmt;
@@ -35,7 +36,7 @@ impl<T: fmt::Display> fmt::Display for Answer<T> {
 pub struct Fnv(u32);
 
 impl Default for Fnv {
-    ghost is_default = { λ hash. hash.0 ≡ 2166136261 };
+    ghost is_default = { λ hash. hash.0 ≡ hash_of [] };
 
     fn default() -> Self {
         Fnv(2166136261)
@@ -44,6 +45,8 @@ impl Default for Fnv {
 
 // The hash of some bytes.
 impl From<&[u8]> for Fnv {
+    ghost from_gives = { λ bytes hash. hash.0 ≡ hash_of bytes.now };
+
     fn from(bytes: &[u8]) -> Self {
         let mut hash = Fnv::default();
         hash.write(bytes);
@@ -53,6 +56,8 @@ impl From<&[u8]> for Fnv {
 
 // The hash of some numbers, each high byte first.
 impl From<&[u16]> for Fnv {
+    ghost from_gives = { λ numbers hash. hash.0 ≡ hash_of_numbers numbers.now };
+
     fn from(numbers: &[u16]) -> Self {
         let mut hash = Fnv::default();
         for number in numbers {
@@ -69,7 +74,7 @@ impl fmt::Display for Fnv {
 }
 
 impl Hasher for Fnv {
-    ghost write = { λ hash bytes. record { 0 = fold (λ h byte. (bit_xor h byte * 16777619) % 2 ^ 32) hash.0 bytes } };
+    ghost write = { λ hash bytes. record { 0 = hashed hash.0 bytes } };
 
     ghost finish = { λ hash. hash.0 };
 
