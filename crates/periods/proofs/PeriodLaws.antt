@@ -19,14 +19,12 @@ use Rattle.numbers.specs.Written.{written, Bytes, Most}
 use Rattle.numbers.proofs.RunLaws.{Added}
 use Rattle.numbers.proofs.WrittenLaws.{written_append}
 use Rattle.numbers.proofs.ThereLaws.{sum_there}
-use Rattle.lists.specs.declared.Header.{Header}
-use Rattle.lists.specs.declared.ListCheck.{ListCheck}
-use Rattle.lists.specs.declared.ListCheck.TheVariants.{Accepted, Refused}
+use Rattle.lists.specs.declared.Accepted.{Accepted}
 use Rattle.lists.specs.Values.{Cycle, PeriodicList, cycles_of, periods_of}
 use Rattle.lists.specs.Reading.{Read, denied, took}
 use Rattle.lists.specs.Sends.{subcycle, sent_from, sends}
 use Rattle.lists.specs.Accepts.{accepted}
-use Rattle.lists.specs.Answers.{told_check, told_read}
+use Rattle.lists.specs.Answers.{header_and_words, told_read}
 use Rattle.list_laws.specs.Written.{cycle_numbers, cycles_numbers, CycleObeys, CyclesObey, Obeys}
 use Rattle.lists.proofs.SentLaws.{sent_snoc}
 use Rattle.lists.proofs.ListLaws.{cycles_most}
@@ -320,23 +318,22 @@ pub told_no : (r : Read PeriodicList) (m : Refusal) → refusing m ≡ told_read
 told_no (denied n) m e = ap denied (cc)
 told_no (took l rest) m e = let z : ◌≡◌ {A = ℕ} 0 1 = cc in absurd (omega arith)
 
-told_yes : (r : Read PeriodicList) (h : Header) (n : ℕ) → told_check (Accepted h n) ≡ told_read r → (l : PeriodicList) × (rest : List ℕ) × (r ≡ took l rest) × (h.ms ≡ l.head.ms)
-told_yes (denied m) h n e = let z : ◌≡◌ {A = ℕ} 0 1 = cc in absurd (omega arith)
-told_yes (took l rest) h n e = (l, rest, refl, cc)
+told_yes : (r : Read PeriodicList) (a : Accepted) → gives (header_and_words a) ≡ told_read r → (l : PeriodicList) × (rest : List ℕ) × (r ≡ took l rest) × (a.header.ms ≡ l.head.ms)
+told_yes (denied m) a e = let z : ◌≡◌ {A = ℕ} 0 1 = cc in absurd (omega arith)
+told_yes (took l rest) a e = (l, rest, refl, cc)
 
 pub bytes_from : (s : List ℕ) → ((i : ℕ) → get_or s i 0 < 256) → Bytes s
 bytes_from [] h = tt
 bytes_from (b ∷ s) h = (h 0, bytes_from s (λ i. h (suc i)))
 
-module _ (s : List ℕ) (a : ListCheck) (t : told_check a ≡ told_read (accepted s)) where
-  pub list_refused : (m : Refusal) → a ≡ Refused m → (j : ℕ) (out : List ℕ) → Answer s j out (refusing m) out
-  unfolding period_by
-  list_refused m e j out =
-      let n : accepted s ≡ denied (number_of m) = told_no (accepted s) m (sym (ap told_check e) ∙ t) in
-      (rw n, rw n)
+pub list_refused : (s : List ℕ) (m : Refusal) → refusing m ≡ told_read (accepted s) → (j : ℕ) (out : List ℕ) → Answer s j out (refusing m) out
+unfolding period_by
+list_refused s m t j out =
+    let n : accepted s ≡ denied (number_of m) = told_no (accepted s) m t in
+    (rw n, rw n)
 
-  pub is_list : Bytes s → (h : Header) (n : ℕ) → a ≡ Accepted h n → IsList s h.ms
-  is_list k h n e =
-      let u = told_yes (accepted s) h n (sym (ap told_check e) ∙ t) in
-      let o = accepted_obeys s u.0 u.1 k u.2 in
-      record { l = u.0; obeys = o.0; written_so = o.1; same = u.3 }
+pub is_list : (s : List ℕ) → Bytes s → (a : Accepted) → gives (header_and_words a) ≡ told_read (accepted s) → IsList s a.header.ms
+is_list s k a t =
+    let u = told_yes (accepted s) a t in
+    let o = accepted_obeys s u.0 u.1 k u.2 in
+    record { l = u.0; obeys = o.0; written_so = o.1; same = u.3 }

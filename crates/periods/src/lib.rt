@@ -9,7 +9,7 @@ ghost use Rattle.lists.specs.Values.{periods_of};
 ghost use Rattle.periods.specs.Period.{period_by, told_sent};
 ghost use Rattle.periods.specs.Inside.{after, CycleHere, SplitHere, SubFits, PartSent, IsList, PeriodWords};
 
-use lists::{ListCheck, cycles_of, list_check, periods_of};
+use lists::{cycles_of, list_check, periods_of};
 use numbers::{read_numbers, sum_numbers};
 use refusals::Refusal;
 
@@ -146,12 +146,8 @@ pub fn basic_period(list: &[u8], j: u16, out: &mut [u16]) -> Sent
     ensures { (told_sent result ≡ period_by list.now j (length out.old) refusal (λ ws. gives (length ws ∷ [])))
         × (out.new ≡ period_by list.now j (length out.old) (λ n. out.old) (λ ws. ws ++ drop (length ws) out.old)) }
 {
-    let c = list_check(list);
-    match c {
-        ListCheck::Refused(n) => Sent::Refused(n),
-        ListCheck::Accepted(head, _) => {
-            let ms = head.ms;
-            send(list, ms, j, out)
-        }
+    match list_check(list) {
+        Ok(accepted) => send(list, accepted.header.ms, j, out),
+        Err(refusal) => Sent::Refused(refusal),
     }
 }
