@@ -8,6 +8,11 @@ use refusals::Refusal;
 use std::fmt;
 use std::hash::Hasher;
 
+// Each byte, and each place for a number, of a lent output before the call.
+pub const UNTOUCHED: u8 = 0xA5;
+
+pub const UNTOUCHED_PLACE: u16 = 0xA5A5;
+
 // A refusal, by its number.
 #[derive(Clone, Copy)]
 pub struct Refused(pub Refusal);

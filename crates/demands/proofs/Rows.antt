@@ -2,7 +2,7 @@
 -- Assumes nothing.
 use mathlib.Core.Path.{◌≡◌, refl, sym, ap, ap₂, ◌∙◌}
 use mathlib.Core.Bool.{not}
-use mathlib.Core.List.{List, [], map}
+use mathlib.Core.List.{List, [], ◌∷◌, map}
 use Prim.Native.Nat.{ℕ, ◌<◌}
 use native.Mathlib.Omega.{arith}
 use base.Logic.{emp, id⊢}
@@ -10,6 +10,10 @@ use contract.Monad.{fact}
 use contract.Running.{within}
 use lib.ListN.{length-map}
 use denote.Ref.{at_last}
+use Rattle.std.specs.Prelude.{Result, Ok, Err, OnErr}
+use Rattle.refusals.specs.declared.Refusal.{Refusal}
+use Rattle.refusals.specs.Told.{told, single}
+use Rattle.refusals.proofs.Apart.{told_apart, singles_apart, never_both, refusals_apart}
 use Rattle.refusals.proofs as refusals
 use Rattle.refusals.proofs.Codes.{value_told, codes_apart}
 use Rattle.checks.specs.Bits.{bits_of}
@@ -35,13 +39,14 @@ use Rattle.numbers.specs.declared.Reader.{Reader}
 use Rattle.numbers.specs.declared.Run.{Run}
 use Rattle.numbers.specs.declared.Summed.{Summed}
 use Rattle.numbers.proofs as numbers
-use Rattle.numbers.proofs.Answers.{numbers_apart}
+use Rattle.numbers.specs.Number.{number_at as number_there}
+use Rattle.numbers.specs.Answers.{value_and_place, value_then}
+use Rattle.numbers.proofs.Answers.{values_apart}
 use Rattle.lists.proofs as lists
-use Rattle.lists.proofs.Apart.{checks_apart}
+use Rattle.lists.specs.Answers.{header_and_words}
+use Rattle.lists.proofs.Apart.{accepted_apart}
 use Rattle.periods.proofs as periods
-use Rattle.periods.proofs.Apart.{sents_apart}
 use Rattle.list_text.proofs as texts
-use Rattle.list_text.proofs.Apart.{texts_apart}
 use Rattle.port_table.proofs as port-table
 use Rattle.ports.proofs as ports
 use Rattle.mvb.proofs as mvb
@@ -69,6 +74,23 @@ check_small block = let h = number_byte_lt (map not (plain (bits_of block))) (le
 -- a reader, and the numbers read or added up, by their fields
 reader_is : {r s : Reader} → r.src ≡ s.src → r.at ≡ s.at → r ≡ s
 reader_is e f i = record { src = e i; at = f i }
+
+-- what a reader's next number tells is a refusal, after which it stands where it stood, or no refusal
+next_refuses : {X : Type 0} (back : Reader → X) (r : Result ℕ Refusal) (old new : Reader) → told (value_then new.at) r ≡ number_there old.src.now old.at → new.src ≡ old.src
+    → OnErr r (new.at ≡ old.at) → Refusing (5 ∷ []) (told single r) (back new ≡ back old)
+next_refuses back (Ok value) old new c b e = answers _
+next_refuses back (Err refusal) old new c b e = told_so c (λ u. ap back (reader_is b e)) (file.number old.src.now old.at)
+
+-- what is told of a next number tells answers apart, and readers afterwards
+next_is : (r s : Result ℕ Refusal) (old new new' : Reader) → told (value_then new.at) r ≡ told (value_then new'.at) s → new.src ≡ old.src → new'.src ≡ old.src
+    → OnErr r (new.at ≡ old.at) → OnErr s (new'.at ≡ old.at) → (r ≡ s) × (new ≡ new')
+next_is (Ok v) (Ok w) old new new' t b b' e e' =
+    let same : v ≡ w = cc in
+    let place : new.at ≡ new'.at = cc in
+    (ap Ok same, reader_is (b ∙ sym b') place)
+next_is (Ok v) (Err m) old new new' t b b' e e' = absurd (never_both (value_then new.at v) m t)
+next_is (Err m) (Ok w) old new new' t b b' e e' = absurd (never_both (value_then new'.at w) m (sym t))
+next_is (Err m) (Err n) old new new' t b b' e e' = (ap Err (refusals_apart m n t), reader_is (b ∙ sym b') (e ∙ sym e'))
 
 sum_is : {r s : Summed} → r.total ≡ s.total → r.next ≡ s.next → r ≡ s
 sum_is e f i = record { total = e i; next = f i }
@@ -233,7 +255,7 @@ number_at = record {
   promised = λ M 𝓤 𝓛 𝓜 𝓡. numbers.number_at.Met.met 𝓤 𝓛 𝓜 (within 𝓤 𝓛.H 𝓜 𝓡 program) has.numbers_number_at;
   says = said table.number_at _ (λ M 𝓤 𝓛 mem run κs a. refl);
   refusing = λ κs a r ws c. told_so c (λ u. refl) (file.number a.0.now a.1.0);
-  one = λ κs a r s ws vs c d. (numbers_apart r s (c ∙ sym d), refl);
+  one = λ κs a r s ws vs c d. (told_apart value_and_place values_apart r s (c ∙ sym d), refl);
 }
 
 pub reader_new : Shown table.reader_new
@@ -247,9 +269,13 @@ reader_new = record {
 pub reader_next : Shown table.reader_next
 reader_next = record {
   promised = λ M 𝓤 𝓛 𝓜 𝓡. numbers.Reader.next.Met.met 𝓤 𝓛 𝓜 (within 𝓤 𝓛.H 𝓜 𝓡 program) has.numbers_Reader_next;
-  says = said table.reader_next _ (λ M 𝓤 𝓛 mem run κs a. refl);
-  refusing = λ κs a r ws c. told_so c (λ u. refl) (file.number a.0.src.now a.0.at);
-  one = λ κs a r s ws vs c d. (numbers_apart r s (c ∙ sym d), refl);
+  says = record {
+    Claim = _;
+    free = λ M 𝓤 𝓛 mem run κs a. (tt, id⊢ 𝓤 (emp 𝓤));
+    claims = λ M 𝓤 𝓛 mem run κs a g r e. two 𝓤 (fact 𝓤 _) _ _ _ (id⊢ 𝓤 (fact 𝓤 _)) (two 𝓤 (fact 𝓤 _) _ _ _ (id⊢ 𝓤 (fact 𝓤 _)) (two 𝓤 (fact 𝓤 _) (fact 𝓤 _) _ _ (id⊢ 𝓤 (fact 𝓤 _)) (id⊢ 𝓤 (fact 𝓤 _))));
+  };
+  refusing = λ κs a r ws c. next_refuses (λ (x : Reader). (at_last a.0 x, tt)) r a.0.now ws.0 c.0 c.1.0 c.1.1.0;
+  one = λ κs a r s ws vs c d. let e = next_is r s a.0.now ws.0 vs.0 (c.0 ∙ sym d.0) c.1.0 d.1.0 c.1.1.0 d.1.1.0 in (e.0, ap (λ (x : Reader). (x, tt)) e.1);
 }
 
 pub read_number : Shown table.read_number
@@ -257,7 +283,7 @@ read_number = record {
   promised = λ M 𝓤 𝓛 𝓜 𝓡. numbers.read_number.Met.met 𝓤 𝓛 𝓜 (within 𝓤 𝓛.H 𝓜 𝓡 program) has.numbers_read_number;
   says = said table.read_number _ (λ M 𝓤 𝓛 mem run κs a. refl);
   refusing = λ κs a r ws c. told_so c (λ u. refl) (file.number a.0.now a.1.0);
-  one = λ κs a r s ws vs c d. (numbers_apart r s (c ∙ sym d), refl);
+  one = λ κs a r s ws vs c d. (told_apart value_and_place values_apart r s (c ∙ sym d), refl);
 }
 
 pub read_numbers : Shown table.read_numbers
@@ -297,7 +323,7 @@ list_check = record {
   promised = λ M 𝓤 𝓛 𝓜 𝓡. lists.list_check.Met.met 𝓤 𝓛 𝓜 (within 𝓤 𝓛.H 𝓜 𝓡 program) has.lists_list_check;
   says = said table.list_check _ (λ M 𝓤 𝓛 mem run κs a. refl);
   refusing = λ κs a r ws c. told_so c (λ u. refl) (file.list_check_lem a.0.now);
-  one = λ κs a r s ws vs c d. (checks_apart r s (c ∙ sym d), refl);
+  one = λ κs a r s ws vs c d. (told_apart header_and_words accepted_apart r s (c ∙ sym d), refl);
 }
 
 pub basic_period : Shown table.basic_period
@@ -305,7 +331,7 @@ basic_period = record {
   promised = λ M 𝓤 𝓛 𝓜 𝓡. periods.basic_period.Met.met 𝓤 𝓛 𝓜 (within 𝓤 𝓛.H 𝓜 𝓡 program) has.periods_basic_period;
   says = said table.basic_period _ (λ M 𝓤 𝓛 mem run κs a. refl);
   refusing = λ κs a r ws c. told_so c.0 (λ e. ap (λ (x : List ℕ). (a.0, (a.1.0, (at_last a.1.1.0 x, tt)))) (c.1 ∙ e)) (file.basic_period_lem a.0.now a.1.0 a.1.1.0.now);
-  one = λ κs a r s ws vs c d. (sents_apart r s (c.0 ∙ sym d.0), ap (λ (x : List ℕ). (tt, (tt, (x, tt)))) (c.1 ∙ sym d.1));
+  one = λ κs a r s ws vs c d. (told_apart single singles_apart r s (c.0 ∙ sym d.0), ap (λ (x : List ℕ). (tt, (tt, (x, tt)))) (c.1 ∙ sym d.1));
 }
 
 pub list_text : Shown table.list_text
@@ -313,7 +339,7 @@ list_text = record {
   promised = λ M 𝓤 𝓛 𝓜 𝓡. texts.list_text.Met.met 𝓤 𝓛 𝓜 (within 𝓤 𝓛.H 𝓜 𝓡 program) has.list_text_list_text;
   says = said table.list_text _ (λ M 𝓤 𝓛 mem run κs a. refl);
   refusing = λ κs a r ws c. told_so c.0 (λ e. ap (λ (x : List ℕ). (a.0, (at_last a.1.0 x, tt))) (c.1 ∙ e)) (file.list_text_lem a.0.now a.1.0.now);
-  one = λ κs a r s ws vs c d. (texts_apart r s (c.0 ∙ sym d.0), ap (λ (x : List ℕ). (tt, (x, tt))) (c.1 ∙ sym d.1));
+  one = λ κs a r s ws vs c d. (told_apart single singles_apart r s (c.0 ∙ sym d.0), ap (λ (x : List ℕ). (tt, (x, tt))) (c.1 ∙ sym d.1));
 }
 
 pub mvb_list_check : Shown table.mvb_list_check

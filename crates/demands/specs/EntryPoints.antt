@@ -14,7 +14,7 @@ use denote.Triple.Entry.{Args, Res}
 use denote.Triple.Clauses.{Ended, AtExit, Clauses}
 use Rattle.refusals.specs.contracts as refusals
 use Rattle.refusals.proofs as refusals-run
-use Rattle.refusals.specs.Told.{Told, gives, told}
+use Rattle.refusals.specs.Told.{Told, gives, told, single}
 use Rattle.refusals.specs.Codes.{told_code}
 use Rattle.checks.specs.contracts as checks
 use Rattle.checks.proofs as checks-run
@@ -37,16 +37,14 @@ use Rattle.search.proofs as search-of-run
 use Rattle.search.specs.Told.{requests_and_reads}
 use Rattle.numbers.specs.contracts as numbers
 use Rattle.numbers.proofs as numbers-run
-use Rattle.numbers.specs.Answers.{told_number}
+use Rattle.numbers.specs.Answers.{value_and_place}
 use Rattle.lists.specs.contracts as lists
 use Rattle.lists.proofs as lists-run
-use Rattle.lists.specs.Answers.{told_check}
+use Rattle.lists.specs.Answers.{header_and_words}
 use Rattle.periods.specs.contracts as periods
 use Rattle.periods.proofs as periods-run
-use Rattle.periods.specs.Period.{told_sent}
 use Rattle.list_text.specs.contracts as texts
 use Rattle.list_text.proofs as texts-run
-use Rattle.list_text.specs.Text.{told_text}
 use Rattle.port_table.specs.contracts as port-table
 use Rattle.port_table.proofs as port-table-run
 use Rattle.ports.specs.contracts as ports
@@ -165,7 +163,7 @@ mvb_guard = record { ended = mvb.timing_calls.mvb_guard.ended; routine = program
 
 -- "a place at or past the end gives 5"
 abbrev pub number_at : EntryPoint
-number_at = record { ended = numbers.number_at.ended; routine = program numbers-run.number_at.Symbol.name; promise = numbers.number_at.clauses; refuses = 5 ∷ []; told = λ κs r. told_number r; passed_back = λ κs e. e }
+number_at = record { ended = numbers.number_at.ended; routine = program numbers-run.number_at.Symbol.name; promise = numbers.number_at.clauses; refuses = 5 ∷ []; told = λ κs r. told value_and_place r; passed_back = λ κs e. e }
 
 -- "a reader that carries the list's bytes and its place"
 abbrev pub reader_new : EntryPoint
@@ -173,11 +171,11 @@ reader_new = record { ended = numbers.Reader.new.ended; routine = program number
 
 -- its next number
 abbrev pub reader_next : EntryPoint
-reader_next = record { ended = numbers.Reader.next.ended; routine = program numbers-run.Reader.next.Symbol.name; promise = numbers.Reader.next.clauses; refuses = 5 ∷ []; told = λ κs r. told_number r; passed_back = λ κs e. e }
+reader_next = record { ended = numbers.Reader.next.ended; routine = program numbers-run.Reader.next.Symbol.name; promise = numbers.Reader.next.clauses; refuses = 5 ∷ []; told = λ κs r. told single r; passed_back = λ κs e. e }
 
 -- a number through a reader
 abbrev pub read_number : EntryPoint
-read_number = record { ended = numbers.read_number.ended; routine = program numbers-run.read_number.Symbol.name; promise = numbers.read_number.clauses; refuses = 5 ∷ []; told = λ κs r. told_number r; passed_back = λ κs e. e }
+read_number = record { ended = numbers.read_number.ended; routine = program numbers-run.read_number.Symbol.name; promise = numbers.read_number.clauses; refuses = 5 ∷ []; told = λ κs r. told value_and_place r; passed_back = λ κs e. e }
 
 -- numbers one after another, as far as they go
 abbrev pub read_numbers : EntryPoint
@@ -197,15 +195,15 @@ periods_of = record { ended = lists.periods_of.ended; routine = program lists-ru
 
 -- whether a list is accepted
 abbrev pub list_check : EntryPoint
-list_check = record { ended = lists.list_check.ended; routine = program lists-run.list_check.Symbol.name; promise = lists.list_check.clauses; refuses = list_refusals; told = λ κs r. told_check r; passed_back = λ κs e. e }
+list_check = record { ended = lists.list_check.ended; routine = program lists-run.list_check.Symbol.name; promise = lists.list_check.clauses; refuses = list_refusals; told = λ κs r. told header_and_words r; passed_back = λ κs e. e }
 
 -- "all list refusals first, then 12, then 4"
 abbrev pub basic_period : EntryPoint
-basic_period = record { ended = periods.basic_period.ended; routine = program periods-run.basic_period.Symbol.name; promise = periods.basic_period.clauses; refuses = 12 ∷ 4 ∷ list_refusals; told = λ κs r. told_sent r; passed_back = λ κs e. e }
+basic_period = record { ended = periods.basic_period.ended; routine = program periods-run.basic_period.Symbol.name; promise = periods.basic_period.clauses; refuses = 12 ∷ 4 ∷ list_refusals; told = λ κs r. told single r; passed_back = λ κs e. e }
 
 -- the list program's text
 abbrev pub list_text : EntryPoint
-list_text = record { ended = texts.list_text.ended; routine = program texts-run.list_text.Symbol.name; promise = texts.list_text.clauses; refuses = 4 ∷ []; told = λ κs r. told_text r; passed_back = λ κs e. e }
+list_text = record { ended = texts.list_text.ended; routine = program texts-run.list_text.Symbol.name; promise = texts.list_text.clauses; refuses = 4 ∷ []; told = λ κs r. told single r; passed_back = λ κs e. e }
 
 -- whether a list is accepted, as C calls it
 abbrev pub mvb_list_check : EntryPoint

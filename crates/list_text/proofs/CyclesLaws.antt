@@ -1,30 +1,20 @@
--- The loops over the cycles of a list that is written so: measuring them, and writing their lines.
+-- The loop over the cycles of a list that is written so: their lines.
 -- Assumes nothing.
 use Prim.Native.Nat.{ℕ, suc, ◌+◌, ◌^◌, ◌≤◌, ◌<◌}
-use mathlib.Core.Path.{◌≡◌, refl, ap, sym, ◌∙◌, subst}
+use mathlib.Core.Path.{◌≡◌, refl, ap, sym, ◌∙◌}
 use mathlib.Core.List.{List, [], ◌∷◌, ◌++◌, append_assoc, append-nil}
-use mathlib.Core.Bool.{Bool, true, false}
 use native.Mathlib.Omega.{arith}
-use borrow.Author.Tests.{ltb-true, ltb-false}
-use lib.Dec.{ltb}
-use lib.ListN.{length, get_or, drop, set, length-append, length-set}
-use lib.Pow.{pow_mono}
-use lib.Seq.{drop_at, get_or-set_same, get_or-set_other}
+use lib.ListN.{length, drop, length-append}
 use Rattle.numbers.specs.Written.{written}
-use Rattle.numbers.proofs.WrittenLaws.{written_append}
-use Rattle.lists.specs.Values.{Cycle, PeriodicList, cycles_of}
+use Rattle.lists.specs.Values.{Cycle, cycles_of, words_of}
 use Rattle.lists.specs.Sends.{subcycles}
-use Rattle.list_laws.specs.Written.{cycle_numbers, cycles_numbers, file, CycleObeys, CyclesObey, Obeys}
-use Rattle.lists.proofs.ListLaws.{cycles_most}
-use Rattle.list_laws.proofs.Acceptance.{one_list}
-use Rattle.periods.specs.Inside.{CycleHere, IsList}
-use Rattle.periods.proofs.PeriodLaws.{obey_right}
+use Rattle.list_laws.specs.Written.{cycles_numbers}
+use Rattle.lists.proofs.SentLaws.{words_append}
+use Rattle.periods.proofs.WalkLaws.{Walk, walk_start, walk_more, all_done, next, cycle_here}
 use Rattle.list_text.specs.Text.{subcycle_lines, cycle_lines}
-use Rattle.list_text.specs.Inside.{Fits, Wrote, LinesPut, lines_of, SplitsAt, CycleMeasured, CycleFits, SplitsBegin, SplitsKnown, CyclesMeasured, CyclesHere, CyclesWrote}
-use Rattle.list_text.proofs.WroteLaws.{fits_part, and_then, as_bytes}
-use Rattle.list_text.proofs.LinesLaws.{wrote_none}
+use Rattle.list_text.specs.Inside.{Few, Wrote, LinesPut, lines_of, CycleFew, CyclesHere, CyclesWrote}
 use Rattle.list_text.proofs.LengthLaws.{cycles_few}
-use Rattle.list_text.proofs.TextLaws.{all_words_few}
+use Rattle.list_text.proofs.WroteLaws.{and_then, as_bytes, wrote_none}
 
 cycles_append : (n : ℕ) (cs ds : List Cycle) → cycle_lines n (cs ++ ds) ≡ cycle_lines n cs ++ cycle_lines (n + length cs) ds
 cycles_append n [] ds = let e : n ≡ n + 0 = omega arith in ap (λ (k : ℕ). cycle_lines k ds) e
@@ -33,197 +23,61 @@ cycles_append n (c ∷ cs) ds =
     ap (λ (l : List ℕ). subcycle_lines (2 ^ n) 0 (subcycles c.words c.splits) ++ l) (cycles_append (suc n) cs ds ∙ ap (λ (k : ℕ). cycle_lines (suc n) cs ++ cycle_lines k ds) e)
     ∙ sym (append_assoc (subcycle_lines (2 ^ n) 0 (subcycles c.words c.splits)) (cycle_lines (suc n) cs) (cycle_lines (n + suc (length cs)) ds))
 
--- ---- the place in the list after some cycles
-pub record Walk (s : List ℕ) (ms cycles p n size : ℕ) : Type 0 where
-  pub known : IsList s ms
-  pub all_cycles : cycles ≡ cycles_of ms
-  pub below : n ≤ cycles
-  pub power : size ≡ 2 ^ n
-  pub done : List Cycle
-  pub todo : List Cycle
-  pub both : known.l.cycles ≡ done ++ todo
-  pub many : length done ≡ n
-  pub bytes : drop p s ≡ written (cycles_numbers todo)
+-- ---- one cycle more
+module _ (s : List ℕ) (ms cycles p n size : ℕ) (at : Walk s ms cycles p n size) (h : n < cycles) where
+  one_more : cycle_lines 0 (at.done ++ (next s ms cycles p n size at h).c ∷ []) ≡ cycle_lines 0 at.done ++ lines_of size (next s ms cycles p n size at h).c
+  one_more =
+      let z : 0 + length at.done ≡ n = omega (arith, at.many) in
+      cycles_append 0 at.done ((next s ms cycles p n size at h).c ∷ []) ∙ ap (λ (m : ℕ). cycle_lines 0 at.done ++ cycle_lines m ((next s ms cycles p n size at h).c ∷ [])) z
+      ∙ ap (λ (u : List ℕ). cycle_lines 0 at.done ++ u) (append-nil (lines_of (2 ^ n) (next s ms cycles p n size at h).c) ∙ ap (λ (x : ℕ). lines_of x (next s ms cycles p n size at h).c) (sym at.power))
 
-abbrev walk_start : (s : List ℕ) (ms cycles : ℕ) (k : IsList s ms) → cycles ≡ cycles_of ms → (p : ℕ) → drop p s ≡ written (cycles_numbers k.l.cycles) → Walk s ms cycles p 0 1
-walk_start s ms cycles k c p b =
-    record { known = k; all_cycles = c; below = omega arith; power = refl; done = []; todo = k.l.cycles; both = refl; many = refl; bytes = b }
-
-nothing_left : (cs : List Cycle) → length cs ≡ 0 → cs ≡ []
-nothing_left [] e = refl
-nothing_left (c ∷ cs) e = absurd (omega arith)
-
-module _ (s : List ℕ) (ms cycles p n size : ℕ) (at : Walk s ms cycles p n size) where
-  all_of : length at.done + length at.todo ≡ cycles
-  all_of = sym (length-append at.done at.todo) ∙ ap length (sym at.both) ∙ at.known.obeys.many ∙ sym (at.all_cycles ∙ ap cycles_of at.known.same)
-
-  all_done : cycles ≤ n → (m : PeriodicList) → Obeys m → file m ≡ s → at.done ≡ m.cycles
-  all_done h m o w =
-      let e : at.todo ≡ [] = nothing_left at.todo (omega (arith, all_of, at.many)) in
-      let f : at.known.l ≡ m = one_list at.known.l m at.known.obeys o (at.known.written_so ∙ sym w) in
-      sym (append-nil at.done) ∙ ap (λ (x : List Cycle). at.done ++ x) (sym e) ∙ sym at.both ∙ ap (λ (x : PeriodicList). x.cycles) f
-
-  module _ (h : n < cycles) where
-    pub small_n : n ≤ 10
-    small_n = omega (arith, at.all_cycles, cycles_most ms)
-
-    pub size_small : size ≤ 1024
-    size_small = let b : 2 ^ n ≤ 2 ^ 10 = pow_mono small_n in omega (arith, at.power)
-
-    pub record Next : Type 0 where
-      pub c : Cycle
-      pub later : List Cycle
-      pub is : at.todo ≡ c ∷ later
-      pub obeys : CycleObeys n c
-
-    pub next : Next
-    next = go at.todo refl
-      where
-        go : (cs : List Cycle) → at.todo ≡ cs → Next
-        go [] e = absurd (omega (arith, all_of, at.many, ap length e))
-        go (c ∷ later) e =
-            let o : CyclesObey (0 + length at.done) (c ∷ later) = obey_right 0 at.done (c ∷ later) (subst (CyclesObey 0) (at.both ∙ ap (λ (x : List Cycle). at.done ++ x) e) at.known.obeys.cycles) in
-            let z : 0 + length at.done ≡ n = omega (arith, at.many) in
-            record { c = c; later = later; is = e; obeys = subst (λ (m : ℕ). CycleObeys m c) z o.0 }
-
-    pub bytes_here : drop p s ≡ written (cycle_numbers next.c) ++ written (cycles_numbers next.later)
-    bytes_here = at.bytes ∙ ap (λ (x : List Cycle). written (cycles_numbers x)) next.is ∙ written_append (cycle_numbers next.c) (cycles_numbers next.later)
-
-    abbrev pub cycle_here : CycleHere s p size
-    cycle_here = record { n = n; c = next.c; rest = written (cycles_numbers next.later); small = small_n; power = at.power; obeys = next.obeys; bytes = bytes_here }
-
-    -- the cycles from this one on
-    pub from_here : drop n at.known.l.cycles ≡ next.c ∷ next.later
-    from_here = ap (drop n) at.both ∙ drop_at at.done at.todo n at.many ∙ next.is
-
-    one_more : cycle_lines 0 (at.done ++ next.c ∷ []) ≡ cycle_lines 0 at.done ++ lines_of size next.c
-    one_more =
-        let z : 0 + length at.done ≡ n = omega (arith, at.many) in
-        cycles_append 0 at.done (next.c ∷ []) ∙ ap (λ (m : ℕ). cycle_lines 0 at.done ++ cycle_lines m (next.c ∷ [])) z
-        ∙ ap (λ (u : List ℕ). cycle_lines 0 at.done ++ u) (append-nil (lines_of (2 ^ n) next.c) ∙ ap (λ (x : ℕ). lines_of x next.c) (sym at.power))
-
-    all_are : at.known.l.cycles ≡ (at.done ++ next.c ∷ []) ++ next.later
-    all_are = at.both ∙ ap (λ (x : List Cycle). at.done ++ x) next.is ∙ sym (append_assoc at.done (next.c ∷ []) next.later)
-
-    pub within : length (cycle_lines 0 at.done) + length (lines_of size next.c) ≤ length (cycle_lines 0 at.known.l.cycles)
-    within =
-        omega (
-          arith,
-          ap length one_more,
-          length-append (cycle_lines 0 at.done) (lines_of size next.c),
-          ap (λ (x : List Cycle). length (cycle_lines 0 x)) all_are,
-          ap length (cycles_append 0 (at.done ++ next.c ∷ []) next.later),
-          length-append (cycle_lines 0 (at.done ++ next.c ∷ [])) (cycle_lines (0 + length (at.done ++ next.c ∷ [])) next.later),
-        )
-
-    abbrev walk_more : (p' : ℕ) → drop p' s ≡ written (cycles_numbers next.later) → Walk s ms cycles p' (n + 1) (size + size)
-    walk_more p' b =
-        record {
-          known = at.known;
-          all_cycles = at.all_cycles;
-          below = omega arith;
-          power = let f : n + 1 ≡ suc n = omega arith in omega (arith, at.power, ap (λ (x : ℕ). 2 ^ x) f);
-          done = at.done ++ next.c ∷ [];
-          todo = next.later;
-          both = all_are;
-          many = omega (arith, length-append at.done (next.c ∷ []), at.many);
-          bytes = b;
-        }
-
--- ---- measuring
-same_cycle : (s : List ℕ) (place : ℕ) (c d : Cycle) (cs ds : List Cycle) → c ∷ cs ≡ d ∷ ds → SplitsAt s place c (written (cycles_numbers cs)) → SplitsAt s place d (written (cycles_numbers ds))
-same_cycle s place c d cs ds e x = let a : c ≡ d = cc in let b : cs ≡ ds = cc in x ∙ ap (λ (y : Cycle). written y.splits ++ written (cycles_numbers cs)) a ∙ ap (λ (y : List Cycle). written d.splits ++ written (cycles_numbers y)) b
-
-pub record Measuring (s : List ℕ) (ms cycles : ℕ) (splits : List ℕ) (p long n size : ℕ) : Type 0 where
-  pub at : Walk s ms cycles p n size
-  pub room : length splits ≡ 11
-  pub begin : SplitsBegin n s at.known.l.cycles splits
-  pub so_far : long ≡ length (cycle_lines 0 at.done)
-
-module _ (s : List ℕ) (ms cycles : ℕ) where
-  pub measuring_start : (splits : List ℕ) (k : IsList s ms) → length splits ≡ 11 → cycles ≡ cycles_of ms → (p : ℕ) → drop p s ≡ written (cycles_numbers k.l.cycles) → Measuring s ms cycles splits p 0 0 1
-  measuring_start splits k r c p b = record { at = walk_start s ms cycles k c p b; room = r; begin = λ m d later l e. absurd (omega arith); so_far = refl }
-
-  module _ (splits : List ℕ) (p long n size : ℕ) (inv : Measuring s ms cycles splits p long n size) where
-    pub measuring_end : cycles ≤ n → CyclesMeasured s ms splits long
-    measuring_end h =
-        (record { room = inv.room; all = λ m o w. splits_of m o w }, λ m o w. inv.so_far ∙ ap (λ (x : List Cycle). length (cycle_lines 0 x)) (all_done s ms cycles p n size inv.at h m o w))
-      where
-        splits_of : (m : PeriodicList) → Obeys m → file m ≡ s → SplitsBegin (cycles_of ms) s m.cycles splits
-        splits_of m o w =
-            let k : IsList s ms = inv.at.known in
-            let f : k.l ≡ m = one_list k.l m k.obeys o (k.written_so ∙ sym w) in
-            λ i c later l e. inv.begin i c later (omega (arith, inv.at.all_cycles)) (ap (λ (x : PeriodicList). drop i x.cycles) f ∙ e)
-
-    module _ (h : n < cycles) where
-      pub place_there : n < length splits
-      place_there = omega (arith, inv.room, small_n s ms cycles p n size inv.at h)
-
-      module _ (first next' more : ℕ) (x : CycleMeasured s size (cycle_here s ms cycles p n size inv.at h).c (cycle_here s ms cycles p n size inv.at h).rest first next' more) where
-        pub long_small : long + more ≤ 42240
-        long_small =
-            let k : IsList s ms = inv.at.known in
-            omega (arith, inv.so_far, x.0, within s ms cycles p n size inv.at h, cycles_few 0 k.l.cycles, all_words_few k.l k.obeys)
-
-        begins : SplitsBegin (n + 1) s inv.at.known.l.cycles (set splits n first)
-        begins i c later l e = go (ltb i n) refl
-          where
-            go : (t : Bool) → ltb i n ≡ t → SplitsAt s (get_or (set splits n first) i 0) c (written (cycles_numbers later))
-            go true u =
-                let b : i < n = ltb-true i n u in
-                subst (λ (y : ℕ). SplitsAt s y c (written (cycles_numbers later))) (sym (get_or-set_other splits n i first 0 (λ q. omega arith))) (inv.begin i c later b e)
-            go false u =
-                let q : i ≡ n = omega (arith, ltb-false i n u) in
-                let v : (next s ms cycles p n size inv.at h).c ∷ (next s ms cycles p n size inv.at h).later ≡ c ∷ later = sym (from_here s ms cycles p n size inv.at h) ∙ ap (λ (y : ℕ). drop y inv.at.known.l.cycles) (sym q) ∙ e in
-                subst (λ (y : ℕ). SplitsAt s y c (written (cycles_numbers later))) (sym (ap (λ (y : ℕ). get_or (set splits n first) y 0) q ∙ get_or-set_same splits n first 0 place_there))
-                (same_cycle s first (next s ms cycles p n size inv.at h).c c (next s ms cycles p n size inv.at h).later later v x.2)
-
-        pub measuring_more : Measuring s ms cycles (set splits n first) next' (long + more) (n + 1) (size + size)
-        measuring_more =
-            record {
-              at = walk_more s ms cycles p n size inv.at h next' x.1;
-              room = length-set splits n first ∙ inv.room;
-              begin = begins;
-              so_far = omega (arith, inv.so_far, x.0, ap length (one_more s ms cycles p n size inv.at h), length-append (cycle_lines 0 inv.at.done) (lines_of size (next s ms cycles p n size inv.at h).c));
-            }
+  -- the words of the cycles before and of this one
+  pub words_within : length (words_of at.done) + length (next s ms cycles p n size at h).c.words ≤ length (words_of at.known.l.cycles)
+  words_within =
+      omega (
+        arith,
+        ap (λ (x : List Cycle). length (words_of x)) (at.both ∙ ap (λ (x : List Cycle). at.done ++ x) (next s ms cycles p n size at h).is),
+        ap length (words_append at.done ((next s ms cycles p n size at h).c ∷ (next s ms cycles p n size at h).later)),
+        length-append (words_of at.done) (words_of ((next s ms cycles p n size at h).c ∷ (next s ms cycles p n size at h).later)),
+        length-append (next s ms cycles p n size at h).c.words (words_of (next s ms cycles p n size at h).later),
+      )
 
 -- ---- writing
-pub record Writing (s : List ℕ) (ms cycles : ℕ) (splits : List ℕ) (to : ℕ) (out₀ out : List ℕ) (p q n size : ℕ) : Type 0 where
+pub record Writing (s : List ℕ) (ms cycles to : ℕ) (out₀ out : List ℕ) (p q n size : ℕ) : Type 0 where
   pub at : Walk s ms cycles p n size
-  pub places : SplitsKnown s ms splits
-  pub fits : Fits to (length (cycle_lines 0 at.known.l.cycles)) out₀
+  pub few : Few to (length (words_of at.known.l.cycles))
   pub long : length out ≡ length out₀
   pub wrote : Wrote to (cycle_lines 0 at.done) out₀ out q
 
-module _ (s : List ℕ) (ms cycles : ℕ) (splits : List ℕ) (to : ℕ) (out₀ : List ℕ) where
-  pub writing_start : (k : CyclesHere s ms splits to out₀) → cycles ≡ cycles_of ms → (p : ℕ) → drop p s ≡ written (cycles_numbers k.known.l.cycles) → Writing s ms cycles splits to out₀ out₀ p to 0 1
-  writing_start k c p b = record { at = walk_start s ms cycles k.known c p b; places = k.places; fits = k.fits; long = refl; wrote = wrote_none to out₀ }
+module _ (s : List ℕ) (ms cycles to : ℕ) (out₀ : List ℕ) where
+  pub writing_start : (k : CyclesHere s ms to) → cycles ≡ cycles_of ms → (p : ℕ) → drop p s ≡ written (cycles_numbers k.known.l.cycles) → Writing s ms cycles to out₀ out₀ p to 0 1
+  writing_start k c p b = record { at = walk_start s ms cycles k.known c p b; few = k.few; long = refl; wrote = wrote_none to out₀ }
 
-  module _ (out : List ℕ) (p q n size : ℕ) (inv : Writing s ms cycles splits to out₀ out p q n size) where
+  module _ (out : List ℕ) (p q n size : ℕ) (inv : Writing s ms cycles to out₀ out p q n size) where
     pub writing_end : cycles ≤ n → CyclesWrote s to out₀ out q
     writing_end h m o w = as_bytes to (cycle_lines 0 inv.at.done) (cycle_lines 0 m.cycles) out₀ out q (ap (cycle_lines 0) (all_done s ms cycles p n size inv.at h m o w)) inv.wrote
 
     module _ (h : n < cycles) where
-      pub place_known : n < length splits
-      place_known = omega (arith, inv.places.room, small_n s ms cycles p n size inv.at h)
-
-      abbrev pub cycle_fits : CycleFits s p (get_or splits n 0) size q out
-      cycle_fits =
-          let k : IsList s ms = inv.at.known in
+      abbrev pub next_few : CycleFew s p size q
+      next_few =
           record {
             here = cycle_here s ms cycles p n size inv.at h;
-            known = inv.places.all k.l k.obeys k.written_so n (next s ms cycles p n size inv.at h).c (next s ms cycles p n size inv.at h).later (omega (arith, inv.at.all_cycles)) (from_here s ms cycles p n size inv.at h);
-            fits = fits_part to (length (cycle_lines 0 k.l.cycles)) out₀ inv.fits q (length (cycle_lines 0 inv.at.done)) (length (lines_of size (next s ms cycles p n size inv.at h).c)) out inv.wrote.next (within s ms cycles p n size inv.at h) inv.long;
+            few = omega (
+              arith,
+              inv.few,
+              inv.wrote.next,
+              cycles_few 0 inv.at.done,
+              words_within s ms cycles p n size inv.at h,
+            );
           }
 
-      pub writing_more : (out' : List ℕ) (q' p' : ℕ) → LinesPut s q (lines_of size cycle_fits.here.c) cycle_fits.here.rest out out' q' p' → length out' ≡ length out
-          → Writing s ms cycles splits to out₀ out' p' q' (n + 1) (size + size)
+      pub writing_more : (out' : List ℕ) (q' p' : ℕ) → LinesPut s q (lines_of size next_few.here.c) next_few.here.rest out out' q' p' → length out' ≡ length out
+          → Writing s ms cycles to out₀ out' p' q' (n + 1) (size + size)
       writing_more out' q' p' w k =
           record {
             at = walk_more s ms cycles p n size inv.at h p' w.1;
-            places = inv.places;
-            fits = inv.fits;
+            few = inv.few;
             long = k ∙ inv.long;
             wrote = as_bytes to (cycle_lines 0 inv.at.done ++ lines_of size (next s ms cycles p n size inv.at h).c) (cycle_lines 0 (inv.at.done ++ (next s ms cycles p n size inv.at h).c ∷ [])) out₀ out' q' (sym (one_more s ms cycles p n size inv.at h))
-                (and_then to (cycle_lines 0 inv.at.done) (lines_of size (next s ms cycles p n size inv.at h).c) out₀ out out' q q' (length (cycle_lines 0 inv.at.known.l.cycles)) inv.fits inv.wrote w.0);
+                (and_then to (cycle_lines 0 inv.at.done) (lines_of size (next s ms cycles p n size inv.at h).c) out₀ out out' q q' inv.long inv.wrote w.0);
           }

@@ -24,7 +24,8 @@ use Rattle.lists.proofs.SentLaws.{words_append}
 use Rattle.list_laws.proofs.Acceptance.{accepted_obeys, obey_listable}
 use Rattle.checks.specs.Bits.{one}
 use Rattle.periods.specs.Once.{times, sent_in, OnceIn}
-use Rattle.periods.proofs.PeriodLaws.{sent_append, obey_right}
+use Rattle.periods.proofs.WalkLaws.{obey_right}
+use Rattle.periods.proofs.PeriodLaws.{sent_append}
 
 -- f 0 + f 1 + .. + f (k - 1)
 abbrev upto : ℕ → (ℕ → ℕ) → ℕ

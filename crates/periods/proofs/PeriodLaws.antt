@@ -8,10 +8,10 @@ use native.Mathlib.Nat.{mod-lt}
 use native.Mathlib.Omega.{arith}
 use borrow.Author.Tests.{lt-ltb, le-ltb, le-leb, lt-leb}
 use lib.Dec.{ltb, leb}
-use lib.ListN.{length, get_or, take, drop, length-append, length-drop, drop_of_length-le, take-append-drop}
+use lib.ListN.{length, get_or, take, drop, length-append, length-drop, drop_of_length-le}
 use borrow.Rule.Slice.PartMut.{put_mid, same_len_mid}
-use lib.Pow.{pow_pos, pow_mono}
-use lib.Seq.{drop-append-le, take_all, take_at, drop-append_seam, drop-drop, length-take-le}
+use lib.Pow.{pow_pos}
+use lib.Seq.{take_all, take_at, drop-append_seam, drop-drop}
 use Rattle.refusals.specs.declared.Refusal.{Refusal}
 use Rattle.refusals.specs.Refusals.{number_of}
 use Rattle.refusals.specs.Told.{Told, gives, refusing, refusal}
@@ -25,12 +25,12 @@ use Rattle.lists.specs.Reading.{Read, denied, took}
 use Rattle.lists.specs.Sends.{subcycle, sent_from, sends}
 use Rattle.lists.specs.Accepts.{accepted}
 use Rattle.lists.specs.Answers.{header_and_words, told_read}
-use Rattle.list_laws.specs.Written.{cycle_numbers, cycles_numbers, CycleObeys, CyclesObey, Obeys}
+use Rattle.list_laws.specs.Written.{cycles_numbers, Obeys}
 use Rattle.lists.proofs.SentLaws.{sent_snoc}
-use Rattle.lists.proofs.ListLaws.{cycles_most}
-use Rattle.list_laws.proofs.Acceptance.{accepted_obeys, obeys_accepted, one_list}
+use Rattle.list_laws.proofs.Acceptance.{accepted_obeys, obeys_accepted}
+use Rattle.periods.proofs.WalkLaws.{Walk, walk_start, walk_more, all_done, size_small, next, cycle_here}
 use Rattle.periods.specs.Period.{period_by}
-use Rattle.periods.specs.Inside.{CycleHere, SubFits, PartSent, IsList, PeriodWords}
+use Rattle.periods.specs.Inside.{SubFits, PartSent, IsList, PeriodWords}
 
 pub sent_append : (cs ds : List Cycle) (m j : ℕ) → sent_from m j (cs ++ ds) ≡ sent_from m j cs ++ sent_from (m + length cs) j ds
 sent_append [] ds m j = let e : m ≡ m + 0 = omega arith in ap (λ (k : ℕ). sent_from k j ds) e
@@ -38,10 +38,6 @@ sent_append (c ∷ cs) ds m j =
     let e : suc m + length cs ≡ m + suc (length cs) = omega arith in
     ap (λ (l : List ℕ). subcycle c (j % 2 ^ m) ++ l) (sent_append cs ds (suc m) j ∙ ap (λ (k : ℕ). sent_from (suc m) j cs ++ sent_from k j ds) e)
     ∙ sym (append_assoc (subcycle c (j % 2 ^ m)) (sent_from (suc m) j cs) (sent_from (m + suc (length cs)) j ds))
-
-pub obey_right : (n : ℕ) (cs ds : List Cycle) → CyclesObey n (cs ++ ds) → CyclesObey (n + length cs) ds
-obey_right n [] ds o = let e : n ≡ n + 0 = omega arith in subst (λ (k : ℕ). CyclesObey k ds) e o
-obey_right n (c ∷ cs) ds o = let e : suc n + length cs ≡ n + suc (length cs) = omega arith in subst (λ (k : ℕ). CyclesObey k ds) e (obey_right (suc n) cs ds o.1)
 
 -- ---- the place after the header
 header_most : (l : PeriodicList) → Obeys l → Most (1 ∷ l.head.ms ∷ l.head.gap ∷ l.head.reserve ∷ [])
@@ -56,112 +52,46 @@ after_header_lem s ms k total next d =
 
 -- ---- the loop
 pub record Inv (s : List ℕ) (ms j cycles : ℕ) (out₀ out : List ℕ) (p k n size : ℕ) : Type 0 where
-  pub known : IsList s ms
+  pub at : Walk s ms cycles p n size
   pub here : j < periods_of ms
   pub room : length out₀ ≡ 64
   pub long : length out ≡ 64
-  pub all_cycles : cycles ≡ cycles_of ms
-  pub below : n ≤ cycles
-  pub power : size ≡ 2 ^ n
-  pub done : List Cycle
-  pub todo : List Cycle
-  pub both : known.l.cycles ≡ done ++ todo
-  pub many : length done ≡ n
-  pub bytes : drop p s ≡ written (cycles_numbers todo)
-  pub count : k ≡ length (sent_from 0 j done)
-  pub sent : out ≡ sent_from 0 j done ++ drop k out₀
+  pub count : k ≡ length (sent_from 0 j at.done)
+  pub sent : out ≡ sent_from 0 j at.done ++ drop k out₀
 
 module _ (s : List ℕ) (ms j cycles : ℕ) (out₀ : List ℕ) where
   pub start : (k : IsList s ms) → j < periods_of ms → length out₀ ≡ 64 → cycles ≡ cycles_of ms → (p : ℕ) → drop p s ≡ written (cycles_numbers k.l.cycles) → Inv s ms j cycles out₀ out₀ p 0 0 1
-  start k h r c p b =
-      record {
-        known = k;
-        here = h;
-        room = r;
-        long = r;
-        all_cycles = c;
-        below = omega arith;
-        power = refl;
-        done = [];
-        todo = k.l.cycles;
-        both = refl;
-        many = refl;
-        bytes = b;
-        count = refl;
-        sent = refl;
-      }
+  start k h r c p b = record { at = walk_start s ms cycles k c p b; here = h; room = r; long = r; count = refl; sent = refl }
 
   module _ (out : List ℕ) (p k n size : ℕ) (inv : Inv s ms j cycles out₀ out p k n size) where
     l : PeriodicList
-    l = inv.known.l
-
-    all_of : length inv.done + length inv.todo ≡ cycles
-    unfolding l
-    all_of = sym (length-append inv.done inv.todo) ∙ ap length (sym inv.both) ∙ inv.known.obeys.many ∙ sym (inv.all_cycles ∙ ap cycles_of inv.known.same)
-
-    nothing_left : (cs : List Cycle) → length cs ≡ 0 → cs ≡ []
-    nothing_left [] e = refl
-    nothing_left (c ∷ cs) e = absurd (omega arith)
+    l = inv.at.known.l
 
     pub end : cycles ≤ n → PeriodWords s j k out₀ out
-    unfolding l
     end h m o w =
-        let e : inv.todo ≡ [] = nothing_left inv.todo (omega (arith, all_of, inv.many)) in
-        let q : l ≡ m = one_list l m inv.known.obeys o (inv.known.written_so ∙ sym w) in
-        let d : l.cycles ≡ inv.done = inv.both ∙ ap (λ (x : List Cycle). inv.done ++ x) e ∙ append-nil inv.done in
-        let f : sent_from 0 j inv.done ≡ sends m j = ap (sent_from 0 j) (sym d) ∙ ap (λ (x : PeriodicList). sends x j) q in
+        let f : sent_from 0 j inv.at.done ≡ sends m j = ap (sent_from 0 j) (all_done s ms cycles p n size inv.at h m o w) in
         (inv.count ∙ ap length f, inv.sent ∙ ap (λ (x : List ℕ). x ++ drop k out₀) f)
 
     module _ (h : n < cycles) where
-      pub small_n : n ≤ 10
-      small_n = omega (arith, inv.all_cycles, cycles_most ms)
-
       pub size_fits : size + size ≤ 2048
-      size_fits = let b : 2 ^ n ≤ 2 ^ 10 = pow_mono small_n in omega (arith, inv.power)
-
-      pub size_some : (size ≡ 0 → ⊥)
-      size_some e = omega (arith, inv.power, pow_pos n)
-
-      record Next : Type 0 where
-        pub c : Cycle
-        pub later : List Cycle
-        pub is : inv.todo ≡ c ∷ later
-        pub obeys : CycleObeys n c
-
-      next : Next
-      unfolding l
-      next = go inv.todo refl
-        where
-          go : (cs : List Cycle) → inv.todo ≡ cs → Next
-          go [] e = absurd (omega (arith, all_of, inv.many, ap length e))
-          go (c ∷ later) e =
-              let o : CyclesObey (0 + length inv.done) (c ∷ later) = obey_right 0 inv.done (c ∷ later) (subst (CyclesObey 0) (inv.both ∙ ap (λ (x : List Cycle). inv.done ++ x) e) inv.known.obeys.cycles) in
-              let z : 0 + length inv.done ≡ n = omega (arith, inv.many) in
-              record { c = c; later = later; is = e; obeys = subst (λ (m : ℕ). CycleObeys m c) z o.0 }
+      size_fits = omega (arith, size_small s ms cycles p n size inv.at h)
 
       c : Cycle
-      c = next.c
+      c = (next s ms cycles p n size inv.at h).c
 
       later : List Cycle
-      later = next.later
+      later = (next s ms cycles p n size inv.at h).later
 
-      bytes_here : drop p s ≡ written (cycle_numbers c) ++ written (cycles_numbers later)
-      unfolding c later
-      bytes_here = inv.bytes ∙ ap (λ (x : List Cycle). written (cycles_numbers x)) next.is ∙ written_append (cycle_numbers next.c) (cycles_numbers next.later)
-
-      all_sent : sends l j ≡ sent_from 0 j inv.done ++ (subcycle c (j % 2 ^ n) ++ sent_from (suc n) j later)
+      all_sent : sends l j ≡ sent_from 0 j inv.at.done ++ (subcycle c (j % 2 ^ n) ++ sent_from (suc n) j later)
       unfolding l c later
       all_sent =
-          let z : 0 + length inv.done ≡ n = omega (arith, inv.many) in
-          ap (sent_from 0 j) (inv.both ∙ ap (λ (x : List Cycle). inv.done ++ x) next.is) ∙ sent_append inv.done (next.c ∷ next.later) 0 j
-          ∙ ap (λ (m : ℕ). sent_from 0 j inv.done ++ sent_from m j (next.c ∷ next.later)) z
+          let z : 0 + length inv.at.done ≡ n = omega (arith, inv.at.many) in
+          ap (sent_from 0 j) (inv.at.both ∙ ap (λ (x : List Cycle). inv.at.done ++ x) (next s ms cycles p n size inv.at h).is) ∙ sent_append inv.at.done ((next s ms cycles p n size inv.at h).c ∷ (next s ms cycles p n size inv.at h).later) 0 j
+          ∙ ap (λ (m : ℕ). sent_from 0 j inv.at.done ++ sent_from m j ((next s ms cycles p n size inv.at h).c ∷ (next s ms cycles p n size inv.at h).later)) z
 
       few_sent : length (sends l j) ≤ 64
       unfolding l
-      few_sent = inv.known.obeys.frames j (subst (λ (x : ℕ). j < periods_of x) inv.known.same inv.here)
-
-      pub k_room : k ≤ length out
-      k_room = omega (arith, inv.count, inv.long, ap length all_sent, few_sent, length-append (sent_from 0 j inv.done) (subcycle c (j % 2 ^ n) ++ sent_from (suc n) j later))
+      few_sent = inv.at.known.obeys.frames j (subst (λ (x : ℕ). j < periods_of x) inv.at.known.same inv.here)
 
       room_left : k + length (subcycle c (j % 2 ^ n)) ≤ 64
       room_left =
@@ -170,33 +100,24 @@ module _ (s : List ℕ) (ms j cycles : ℕ) (out₀ : List ℕ) where
             inv.count,
             ap length all_sent,
             few_sent,
-            length-append (sent_from 0 j inv.done) (subcycle c (j % 2 ^ n) ++ sent_from (suc n) j later),
+            length-append (sent_from 0 j inv.at.done) (subcycle c (j % 2 ^ n) ++ sent_from (suc n) j later),
             length-append (subcycle c (j % 2 ^ n)) (sent_from (suc n) j later),
           )
 
       sub_is : subcycle c (j % size) ≡ subcycle c (j % 2 ^ n)
-      sub_is = ap (λ (x : ℕ). subcycle c (j % x)) inv.power
+      sub_is = ap (λ (x : ℕ). subcycle c (j % x)) inv.at.power
 
       -- the places of out from k on
       rest-is : take (length out - k) (drop k out) ≡ drop k out
       rest-is = take_all (length out - k) (drop k out) (omega (arith, length-drop k out))
 
-      pub cycle_here : CycleHere s p size
-      unfolding c later
-      cycle_here = record { n = n; c = next.c; rest = written (cycles_numbers next.later); small = small_n; power = inv.power; obeys = next.obeys; bytes = bytes_here }
+      pub sub-fits : SubFits (cycle_here s ms cycles p n size inv.at h).c size (j % size) (length (take (length out - k) (drop k out)))
+      unfolding c
+      sub-fits = (mod-lt j (omega (arith, inv.at.power, pow_pos n)), omega (arith, room_left, ap length sub_is, ap length rest-is, length-drop k out, inv.long))
 
-      -- nothing follows the last cycle
-      pub last_here : n + 1 ≡ cycles → cycle_here.rest ≡ []
-      unfolding cycle_here
-      last_here e = ap (λ (x : List Cycle). written (cycles_numbers x)) (nothing_left next.later (omega (arith, all_of, inv.many, ap length next.is)))
-
-      pub sub-fits : SubFits cycle_here.c size (j % size) (length (take (length out - k) (drop k out)))
-      unfolding c cycle_here
-      sub-fits = (mod-lt j (omega (arith, inv.power, pow_pos n)), omega (arith, room_left, ap length sub_is, ap length rest-is, length-drop k out, inv.long))
-
-      module _ (part' : List ℕ) (m at : ℕ) (g : PartSent s cycle_here.c (j % size) cycle_here.rest (take (length out - k) (drop k out)) part' m at) where
-        sent_part : (m ≡ length (subcycle c (j % 2 ^ n))) × (drop at s ≡ written (cycles_numbers later)) × (part' ≡ subcycle c (j % 2 ^ n) ++ drop m (drop k out))
-        unfolding c later cycle_here
+      module _ (part' : List ℕ) (m to : ℕ) (g : PartSent s (cycle_here s ms cycles p n size inv.at h).c (j % size) (cycle_here s ms cycles p n size inv.at h).rest (take (length out - k) (drop k out)) part' m to) where
+        sent_part : (m ≡ length (subcycle c (j % 2 ^ n))) × (drop to s ≡ written (cycles_numbers later)) × (part' ≡ subcycle c (j % 2 ^ n) ++ drop m (drop k out))
+        unfolding c later
         sent_part = (
           g.0 ∙ ap length sub_is,
           g.1,
@@ -216,40 +137,32 @@ module _ (s : List ℕ) (ms j cycles : ℕ) (out₀ : List ℕ) where
         pub m_few : k + m ≤ 64
         m_few = omega (arith, room_left, sent_part.0)
 
-        front : take k out ≡ sent_from 0 j inv.done
-        front = ap (take k) inv.sent ∙ take_at (sent_from 0 j inv.done) (drop k out₀) k (sym inv.count)
+        front : take k out ≡ sent_from 0 j inv.at.done
+        front = ap (take k) inv.sent ∙ take_at (sent_from 0 j inv.at.done) (drop k out₀) k (sym inv.count)
 
         back : drop k out ≡ drop k out₀
-        back = ap (drop k) inv.sent ∙ ap (λ (x : ℕ). drop x (sent_from 0 j inv.done ++ drop k out₀)) inv.count ∙ drop-append_seam (sent_from 0 j inv.done) (drop k out₀)
+        back = ap (drop k) inv.sent ∙ ap (λ (x : ℕ). drop x (sent_from 0 j inv.at.done ++ drop k out₀)) inv.count ∙ drop-append_seam (sent_from 0 j inv.at.done) (drop k out₀)
 
-        now_sent : out' ≡ (sent_from 0 j inv.done ++ subcycle c (j % 2 ^ n)) ++ drop (k + m) out₀
+        now_sent : out' ≡ (sent_from 0 j inv.at.done ++ subcycle c (j % 2 ^ n)) ++ drop (k + m) out₀
         now_sent =
-            out_is ∙ ap (λ (x : List ℕ). x ++ part') front ∙ ap (λ (x : List ℕ). sent_from 0 j inv.done ++ x) sent_part.2
-            ∙ sym (append_assoc (sent_from 0 j inv.done) (subcycle c (j % 2 ^ n)) (drop m (drop k out)))
-            ∙ ap (λ (x : List ℕ). (sent_from 0 j inv.done ++ subcycle c (j % 2 ^ n)) ++ x) (ap (drop m) back ∙ drop-drop m k out₀)
+            out_is ∙ ap (λ (x : List ℕ). x ++ part') front ∙ ap (λ (x : List ℕ). sent_from 0 j inv.at.done ++ x) sent_part.2
+            ∙ sym (append_assoc (sent_from 0 j inv.at.done) (subcycle c (j % 2 ^ n)) (drop m (drop k out)))
+            ∙ ap (λ (x : List ℕ). (sent_from 0 j inv.at.done ++ subcycle c (j % 2 ^ n)) ++ x) (ap (drop m) back ∙ drop-drop m k out₀)
 
-        snoc : sent_from 0 j (inv.done ++ c ∷ []) ≡ sent_from 0 j inv.done ++ subcycle c (j % 2 ^ n)
+        snoc : sent_from 0 j (inv.at.done ++ c ∷ []) ≡ sent_from 0 j inv.at.done ++ subcycle c (j % 2 ^ n)
         snoc =
-            let z : 0 + length inv.done ≡ n = omega (arith, inv.many) in
-            sent_snoc inv.done c 0 j ∙ ap (λ (x : ℕ). sent_from 0 j inv.done ++ subcycle c (j % 2 ^ x)) z
+            let z : 0 + length inv.at.done ≡ n = omega (arith, inv.at.many) in
+            sent_snoc inv.at.done c 0 j ∙ ap (λ (x : ℕ). sent_from 0 j inv.at.done ++ subcycle c (j % 2 ^ x)) z
 
-        pub more : length part' ≡ length (take (length out - k) (drop k out)) → Inv s ms j cycles out₀ (put_mid k (length out - k) out part') at (k + m) (n + 1) (size + size)
+        pub more : length part' ≡ length (take (length out - k) (drop k out)) → Inv s ms j cycles out₀ (put_mid k (length out - k) out part') to (k + m) (n + 1) (size + size)
         unfolding c later out'
         more lp =
             record {
-              known = inv.known;
+              at = walk_more s ms cycles p n size inv.at h to sent_part.1;
               here = inv.here;
               room = inv.room;
               long = same_len_mid k (length out - k) out part' lp ∙ inv.long;
-              all_cycles = inv.all_cycles;
-              below = omega arith;
-              power = let e : n + 1 ≡ suc n = omega arith in omega (arith, inv.power, ap (λ (x : ℕ). 2 ^ x) e);
-              done = inv.done ++ next.c ∷ [];
-              todo = next.later;
-              both = inv.both ∙ ap (λ (x : List Cycle). inv.done ++ x) next.is ∙ sym (append_assoc inv.done (next.c ∷ []) next.later);
-              many = omega (arith, length-append inv.done (next.c ∷ []), inv.many);
-              bytes = sent_part.1;
-              count = omega (arith, inv.count, ap length snoc, length-append (sent_from 0 j inv.done) (subcycle next.c (j % 2 ^ n)), sent_part.0);
+              count = omega (arith, inv.count, ap length snoc, length-append (sent_from 0 j inv.at.done) (subcycle (next s ms cycles p n size inv.at h).c (j % 2 ^ n)), sent_part.0);
               sent = now_sent ∙ ap (λ (x : List ℕ). x ++ drop (k + m) out₀) (sym snoc);
             }
 
@@ -282,24 +195,6 @@ module _ (s : List ℕ) (ms j : ℕ) (out : List ℕ) (k : IsList s ms) where
     words : take m sent ≡ sends k.l j
     words = ap (take m) (w k.l k.obeys k.written_so).1 ∙ take_at (sends k.l j) (drop m sent₀) m (sym count)
 
-    pub m_most : length sent ≡ 64 → m ≤ length sent
-    m_most e = omega (arith, count, k.obeys.frames j (omega (arith, ap periods_of k.same)))
-
-    -- where sent is the front of out
-    pub send_straight : 64 ≤ length out → sent₀ ≡ take 64 out → Answer s j out (gives (m ∷ [])) (sent ++ drop 64 out)
-    unfolding period_by
-    send_straight l q =
-        let a : accepted s ≡ took k.l [] = list_is_read s ms k in
-        let f : length (sends k.l j) ≤ 64 = k.obeys.frames j (omega (arith, ap periods_of k.same)) in
-        let b : leb (length (sends k.l j)) (length out) ≡ true = le-leb (length (sends k.l j)) (length out) (omega arith) in
-        let n : length (take 64 out) ≡ 64 = length-take-le 64 out l in
-        let d : drop m sent₀ ++ drop 64 out ≡ drop m out =
-        ap (λ (x : List ℕ). drop m x ++ drop 64 out) q ∙ sym (drop-append-le m (take 64 out) (drop 64 out) (omega (arith, count))) ∙ ap (drop m) (take-append-drop 64 out) in
-        let e : sent ++ drop 64 out ≡ sends k.l j ++ drop (length (sends k.l j)) out =
-        ap (λ (x : List ℕ). x ++ drop 64 out) (w k.l k.obeys k.written_so).1 ∙ append_assoc (sends k.l j) (drop m sent₀) (drop 64 out)
-        ∙ ap (λ (x : List ℕ). sends k.l j ++ x) d ∙ ap (λ (x : ℕ). sends k.l j ++ drop x out) count in
-        (rw (a, here, b) (ap (λ (x : ℕ). gives (x ∷ [])) count), rw (a, here, b) e)
-
     pub send_4 : length out < m → Answer s j out (refusal 4) out
     unfolding period_by
     send_4 l =
@@ -314,7 +209,7 @@ module _ (s : List ℕ) (ms j : ℕ) (out : List ℕ) (k : IsList s ms) where
         let b : leb (length (sends k.l j)) (length out) ≡ true = le-leb (length (sends k.l j)) (length out) (omega (arith, count)) in
         (rw (a, here, b) (ap (λ (x : ℕ). gives (x ∷ [])) count), rw (a, here, b) (q ∙ ap (λ (x : List ℕ). x ++ drop (length x) out) words))
 
-pub told_no : (r : Read PeriodicList) (m : Refusal) → refusing m ≡ told_read r → r ≡ denied (number_of m)
+told_no : (r : Read PeriodicList) (m : Refusal) → refusing m ≡ told_read r → r ≡ denied (number_of m)
 told_no (denied n) m e = ap denied (cc)
 told_no (took l rest) m e = let z : ◌≡◌ {A = ℕ} 0 1 = cc in absurd (omega arith)
 

@@ -1,13 +1,10 @@
 -- Asking for a Basic Period: "all list refusals first, then 12, then 4" (document 01, "What a Basic Period sends").
 -- Assumes nothing.
-use Rattle.std.specs.Prelude.{ℕ, List, [], ◌∷◌, cond, ltb, leb, length}
-use Rattle.refusals.specs.Told.{Told, gives, refusing}
+use Rattle.std.specs.Prelude.{ℕ, List, cond, ltb, leb, length}
 use Rattle.lists.specs.Values.{PeriodicList, periods_of}
 use Rattle.lists.specs.Reading.{Read, denied, took}
 use Rattle.lists.specs.Accepts.{accepted}
 use Rattle.lists.specs.Sends.{sends}
-use Rattle.periods.specs.declared.Sent.{Sent}
-use Rattle.periods.specs.declared.Sent.TheVariants.{Words, Refused}
 
 -- the order of checks for Basic Period j of what was read, with so many places for its words
 abbrev pub asked_by {ℓ} : {A : Type ℓ} → Read PeriodicList → ℕ → ℕ → (ℕ → A) → (List ℕ → A) → A
@@ -17,8 +14,3 @@ asked_by (took l rest) j room refused done = cond (ltb j (periods_of l.head.ms))
 -- the order of checks of a Basic Period: "all list refusals first, then 12, then 4"
 unfoldable pub period_by {ℓ} : {A : Type ℓ} → List ℕ → ℕ → ℕ → (ℕ → A) → (List ℕ → A) → A
 period_by list j room refused done = asked_by (accepted list) j room refused done
-
--- the number of words, or the refusal
-abbrev pub told_sent : Sent → Told
-told_sent (Words k) = gives (k ∷ [])
-told_sent (Refused r) = refusing r

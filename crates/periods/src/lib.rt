@@ -4,21 +4,14 @@
 mod skips;
 
 ghost use Rattle.std.specs.Prelude.{◌≡◌, true, false, [], ◌∷◌, ◌++◌, ◌+◌, ◌≤◌, ◌<◌, length, drop};
-ghost use Rattle.refusals.specs.Told.{gives, refusal};
+ghost use Rattle.refusals.specs.Told.{gives, refusal, told, single};
 ghost use Rattle.lists.specs.Values.{periods_of};
-ghost use Rattle.periods.specs.Period.{period_by, told_sent};
+ghost use Rattle.periods.specs.Period.{period_by};
 ghost use Rattle.periods.specs.Inside.{after, CycleHere, SplitHere, SubFits, PartSent, IsList, PeriodWords};
 
 use lists::{cycles_of, list_check, periods_of};
 use numbers::{read_numbers, sum_numbers};
 use refusals::Refusal;
-
-// How many words were written.
-#[derive(Clone, Copy)]
-pub enum Sent {
-    Words(usize),
-    Refused(Refusal),
-}
 
 // How many words of a cycle go out, and the place after the cycle.
 #[derive(Clone, Copy)]
@@ -27,56 +20,37 @@ struct Part {
     next: usize,
 }
 
+// Words to the front of others: std's copy is no part of this program, and the list's text copies bytes.
 fn put(src: &[u16], out: &mut [u16])
     requires { length src.now ≤ length out.old }
     ensures { out.new ≡ src.now ++ drop (length src.now) out.old }
 {
-    let mut i = 0;
-    while i < src.len() {
-        out[i] = src[i];
-        i += 1;
+    for (i, word) in src.iter().enumerate() {
+        out[i] = *word;
     }
-}
-
-// The place after so many numbers; behind the last cycle, the list's end.
-fn place_after(list: &[u8], at: usize, left: u16, last: bool) -> usize
-    ensures { (last ≡ true → result ≡ length list.now) × (last ≡ false → result ≡ at + after left (drop at list.now)) }
-{
-    if last {
-        return list.len();
-    }
-    skips::skip(list, at, left)
 }
 
 // Subcycle sub of a cycle with split numbers, whose words start at a place: the words are passed over, the split numbers
 // added up, and the words of the Subcycle read.
-fn put_split(
-    list: &[u8],
-    at: usize,
-    count: u16,
-    size: u16,
-    sub: u16,
-    last: bool,
-    out: &mut [u16],
-) -> Part
+fn put_split(list: &[u8], at: usize, count: u16, size: u16, sub: u16, out: &mut [u16]) -> Part
     requires { (h : SplitHere list.now at count size) × SubFits h.c size sub (length out.old) }
-    ensures { (h : SplitHere list.now at count size) → (last ≡ true → h.rest ≡ []) → SubFits h.c size sub (length out.old)
+    ensures { (h : SplitHere list.now at count size) → SubFits h.c size sub (length out.old)
         → PartSent list.now h.c sub h.rest out.old out.new result.many result.next }
 {
     let words = skips::skip(list, at, count);
     let before = sum_numbers(list, words, sub);
     let here = sum_numbers(list, before.next, 1);
-    let next = place_after(list, here.next, size - sub - 1, last);
+    let next = skips::skip(list, here.next, size - sub - 1);
     let first = skips::skip(list, at, before.total as u16);
     let many = here.total;
     read_numbers(list, first, &mut out[..many]);
     Part { many, next }
 }
 
-// Subcycle sub of the cycle at a place, with so many Subcycles, perhaps the last: its words at the front of out.
-fn put_subcycle(list: &[u8], at: usize, size: u16, sub: u16, last: bool, out: &mut [u16]) -> Part
+// Subcycle sub of the cycle at a place, with so many Subcycles: its words at the front of out.
+fn put_subcycle(list: &[u8], at: usize, size: u16, sub: u16, out: &mut [u16]) -> Part
     requires { (h : CycleHere list.now at size) × SubFits h.c size sub (length out.old) }
-    ensures { (h : CycleHere list.now at size) → (last ≡ true → h.rest ≡ []) → SubFits h.c size sub (length out.old)
+    ensures { (h : CycleHere list.now at size) → SubFits h.c size sub (length out.old)
         → PartSent list.now h.c sub h.rest out.old out.new result.many result.next }
 {
     let c = sum_numbers(list, at, 1);
@@ -94,10 +68,11 @@ fn put_subcycle(list: &[u8], at: usize, size: u16, sub: u16, last: bool, out: &m
             next: c.next,
         };
     }
-    put_split(list, c.next, count as u16, size, sub, last, out)
+    put_split(list, c.next, count as u16, size, sub, out)
 }
 
-// The words of Basic Period j of an accepted list, at the front of out: how many.
+// The words of Basic Period j of an accepted list, at the front of out: how many. The list's text walks the cycles too; a
+// walk for both would be public, with a promise on any bytes.
 fn period_words(list: &[u8], ms: u16, j: u16, out: &mut [u16]) -> usize
     requires { IsList list.now ms × (j < periods_of ms) × (length out.old ≡ 64) }
     ensures { PeriodWords list.now j result out.old out.new }
@@ -106,48 +81,41 @@ fn period_words(list: &[u8], ms: u16, j: u16, out: &mut [u16]) -> usize
     let header = sum_numbers(list, 0, 4);
     let mut p = header.next;
     let mut k: usize = 0;
-    let mut n: usize = 0;
     let mut size: u16 = 1;
-    while n < cycles {
-        let last = n + 1 == cycles;
-        let c = put_subcycle(list, p, size, j % size, last, &mut out[k..]);
+    for n in 0..cycles {
+        let c = put_subcycle(list, p, size, j % size, &mut out[k..]);
         k += c.many;
         p = c.next;
-        n += 1;
         size += size;
     }
     k
 }
 
 // Basic Period j of an accepted list: 12, then 4.
-fn send(list: &[u8], ms: u16, j: u16, out: &mut [u16]) -> Sent
+fn send(list: &[u8], ms: u16, j: u16, out: &mut [u16]) -> Result<usize, Refusal>
     requires { IsList list.now ms }
-    ensures { (told_sent result ≡ period_by list.now j (length out.old) refusal (λ ws. gives (length ws ∷ [])))
+    ensures { (told single result ≡ period_by list.now j (length out.old) refusal (λ ws. gives (length ws ∷ [])))
         × (out.new ≡ period_by list.now j (length out.old) (λ n. out.old) (λ ws. ws ++ drop (length ws) out.old)) }
 {
     if periods_of(ms) <= j as usize {
-        return Sent::Refused(Refusal::NoSuchPeriod);
-    }
-    if 64 <= out.len() {
-        let all = period_words(list, ms, j, &mut out[..64]);
-        return Sent::Words(all);
+        return Err(Refusal::NoSuchPeriod);
     }
     let mut sent = [0u16; 64];
     let k = period_words(list, ms, j, &mut sent);
     if out.len() < k {
-        return Sent::Refused(Refusal::TooShort);
+        return Err(Refusal::TooShort);
     }
     put(&sent[..k], out);
-    Sent::Words(k)
+    Ok(k)
 }
 
 // The words of Basic Period j of a list, at the front of out.
-pub fn basic_period(list: &[u8], j: u16, out: &mut [u16]) -> Sent
-    ensures { (told_sent result ≡ period_by list.now j (length out.old) refusal (λ ws. gives (length ws ∷ [])))
+pub fn basic_period(list: &[u8], j: u16, out: &mut [u16]) -> Result<usize, Refusal>
+    ensures { (told single result ≡ period_by list.now j (length out.old) refusal (λ ws. gives (length ws ∷ [])))
         × (out.new ≡ period_by list.now j (length out.old) (λ n. out.old) (λ ws. ws ++ drop (length ws) out.old)) }
 {
     match list_check(list) {
+        Err(refusal) => Err(refusal),
         Ok(accepted) => send(list, accepted.header.ms, j, out),
-        Err(refusal) => Sent::Refused(refusal),
     }
 }

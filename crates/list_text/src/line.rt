@@ -1,0 +1,158 @@
+// A line of the text, in bytes of its own until it is whole.
+ghost use Rattle.std.specs.Prelude.{◌≡◌, [], ◌∷◌, ◌++◌, ◌+◌, ◌≤◌, ◌<◌, length};
+ghost use Rattle.list_text.specs.Text.{digit, decimal, hex, field, header_line, word_line, refused_line};
+ghost use Rattle.list_text.specs.Inside.{place, Wrote};
+
+use lists::Header;
+use std::marker::Model;
+
+#[derive(Drop)]
+pub(crate) struct Line {
+    bytes: [u8; 20],
+    many: usize,
+}
+
+impl Model for Line {
+    ghost use Rattle.std.specs.Prelude.{List, ℕ, ◌≤◌, take};
+
+    ghost Value = { List ℕ };
+
+    ghost view = { λ l. take l.many l.bytes };
+
+    ghost invariant = { λ l. l.many ≤ 20 };
+}
+
+fn digit_of(d: u16) -> u8
+    requires { d < 16 }
+    ensures { result ≡ digit d }
+{
+    if d < 10 {
+        b'0' + d as u8
+    } else {
+        b'A' - 10 + d as u8
+    }
+}
+
+impl Line {
+    fn new() -> Line
+        ensures { result ≡ [] }
+    {
+        Line {
+            bytes: [0; 20],
+            many: 0,
+        }
+    }
+
+    fn push(&mut self, byte: u8)
+        requires { length self.old < 20 }
+        ensures { self.new ≡ self.old ++ byte ∷ [] }
+    {
+        self.bytes[self.many] = byte;
+        self.many += 1;
+    }
+
+    // The digit that counts units of this size, where the number has it.
+    #[tactic(auto, unfolding(crate::specs::Inside::place))]
+    fn push_place(&mut self, n: u16, unit: u16)
+        requires { (length self.old < 20) × (1 ≤ unit) }
+        ensures { self.new ≡ self.old ++ place n unit }
+    {
+        if unit <= n {
+            self.push(digit_of(n / unit % 10));
+        }
+    }
+
+    // A number below 10,000 in decimal.
+    #[tactic(auto, using(crate::proofs::LineLaws::places_few))]
+    fn push_decimal(&mut self, n: u16)
+        requires { (n < 10000) × (length self.old ≤ 16) }
+        ensures { self.new ≡ self.old ++ decimal n }
+    {
+        self.push_place(n, 1000);
+        self.push_place(n, 100);
+        self.push_place(n, 10);
+        self.push(digit_of(n % 10));
+    }
+
+    fn push_hex(&mut self, word: u16)
+        requires { length self.old ≤ 16 }
+        ensures { self.new ≡ self.old ++ hex word }
+    {
+        self.push(digit_of(word / 4096));
+        self.push(digit_of(word / 256 % 16));
+        self.push(digit_of(word / 16 % 16));
+        self.push(digit_of(word % 16));
+    }
+
+    // A number and the byte after it.
+    #[tactic(auto, using(crate::proofs::LineLaws::decimals_few))]
+    fn push_field(&mut self, n: u16, after: u8)
+        requires { (n < 10000) × (length self.old ≤ 15) }
+        ensures { self.new ≡ self.old ++ field n after }
+    {
+        self.push_decimal(n);
+        self.push(after);
+    }
+
+    #[tactic(auto, using(crate::proofs::LineLaws::fields_few), unfolding(crate::specs::Text::header_line))]
+    pub(crate) fn header(head: Header, words: u16) -> Line
+        requires { (head.ms < 10000) × (head.gap < 10000) × (head.reserve < 10000) × (words < 10000) }
+        ensures { result ≡ header_line head.ms head.gap head.reserve words }
+    {
+        let mut line = Line::new();
+        line.push_field(head.ms, b' ');
+        line.push_field(head.gap, b' ');
+        line.push_field(head.reserve, b' ');
+        line.push_field(words, b'\n');
+        line
+    }
+
+    #[tactic(auto, using(crate::proofs::LineLaws::fields_few), unfolding(crate::specs::Text::word_line))]
+    pub(crate) fn of_word(cycle: u16, sub: u16, word: u16) -> Line
+        requires { (cycle < 10000) × (sub < 10000) }
+        ensures { result ≡ word_line cycle sub word }
+    {
+        let mut line = Line::new();
+        line.push_hex(word);
+        line.push(b' ');
+        line.push_field(cycle, b' ');
+        line.push_field(sub, b'\n');
+        line
+    }
+
+    // A refusal by its number.
+    #[tactic(auto, unfolding(crate::specs::Text::refused_line))]
+    pub(crate) fn refused(n: u16) -> Line
+        requires { n < 10000 }
+        ensures { result ≡ refused_line n }
+    {
+        let mut line = Line::new();
+        for byte in b"refused " {
+            line.push(*byte);
+        }
+        line.push_field(n, b'\n');
+        line
+    }
+
+    // How many bytes the line has.
+    pub(crate) fn len(&self) -> usize
+        ensures { (result ≡ length self.now) × (result ≤ 20) }
+    {
+        self.many
+    }
+
+    // The line at a place, where there is room for it; the answer is the place after it.
+    pub(crate) fn put(&self, out: &mut [u8], at: usize) -> usize
+        requires { at ≤ 100000 }
+        ensures { Wrote at self.now out.old out.new result }
+    {
+        let end = at + self.many;
+        if out.len() < end {
+            return end;
+        }
+        for (i, byte) in self.bytes[..self.many].iter().enumerate() {
+            out[at + i] = *byte;
+        }
+        end
+    }
+}
