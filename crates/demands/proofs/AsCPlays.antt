@@ -8,6 +8,7 @@ use native.Mathlib.Omega.{arith}
 use lib.Dec.{ltb}
 use lib.ListN.{length}
 use borrow.Author.Tests.{le-ltb}
+use Rattle.std.specs.Prelude.{Ok, Err}
 use Rattle.refusals.specs.declared.Refusal.TheVariants.{OutOfRange}
 use Rattle.refusals.specs.Told.{refusal}
 use Rattle.frames.specs.Line.{answer_of}
@@ -15,9 +16,8 @@ use Rattle.groups.specs.Groups.{request_word}
 use Rattle.rounds.specs.declared.Phase.{Phase}
 use Rattle.rounds.specs.declared.Phase.TheVariants.{Asked, Read, Ended}
 use Rattle.rounds.specs.declared.Round.{Round}
-use Rattle.rounds.specs.declared.Step.{Step}
-use Rattle.rounds.specs.declared.Step.TheVariants.{Next, End, Refused}
-use Rattle.rounds.specs.Rounds.{counts_of, round, none, step_by, step_of, start_of}
+use Rattle.rounds.specs.declared.Step.TheVariants.{Next, End}
+use Rattle.rounds.specs.Rounds.{round, none, Handed, step_by, step_of, start_of}
 use Rattle.rounds.specs.Told.{phase_number}
 use Rattle.rounds.specs.Lines.{Line, History, then, tick_by, run_by, on_line, begun, run}
 use Rattle.rounds.specs.Bytes.{ByteLine, MadeFrom}
@@ -32,21 +32,21 @@ phase_back Ended = refl
 -- six numbers hold the round that was stored in them
 round_back : (r : Round) (lent : List ℕ) → round_in (stored r lent) ≡ r
 unfolding round_in
-round_back r lent = ap (λ (p : Phase). record { phase = p; m = r.m; c = r.c; requests = r.requests; reads = r.reads; unresolved = r.unresolved }) (phase_back r.phase)
+round_back r lent = ap (λ (p : Phase). record { phase = p; m = r.m; c = r.c; counts = r.counts }) (phase_back r.phase)
 
 six : (r : Round) (lent : List ℕ) → ltb (length (stored r lent)) 6 ≡ false
 six r lent = le-ltb (length (stored r lent)) 6 (omega arith)
 
 -- an ended round answers the end again
-ended_again : (r : Round) (bytes : List ℕ) → r.phase ≡ Ended → step_of r (answer_of bytes) ≡ End r (counts_of r)
+ended_again : (r : Round) (bytes : List ℕ) → r.phase ≡ Ended → step_of r (answer_of bytes) ≡ Ok (End r r.counts)
 unfolding step_by
 ended_again r bytes e = rw e refl
 
 module _ (lent : List ℕ) where
-  after_is : (r : Round) (s : Step) → Stands lent s (run_after (stored r lent) s)
-  after_is r (Next q word) = refl
-  after_is r (End q k) = refl
-  after_is r (Refused n) = tt
+  after_is : (r : Round) (s : Handed) → Stands lent s (run_after (stored r lent) s)
+  after_is r (Ok (Next q word)) = refl
+  after_is r (Ok (End q k)) = refl
+  after_is r (Err n) = tt
 
   step_told : (r : Round) (bytes : List ℕ) → round_answer (stored r lent) bytes ≡ told_step (step_of r (answer_of bytes))
   unfolding round_answer
@@ -68,12 +68,12 @@ module _ (lent : List ℕ) where
     pub stands : Stands lent h.last p.numbers
 
   module _ (bytes : ByteLine) (line : Line) (made : MadeFrom bytes line) where
-    one_more : (sent numbers : List ℕ) (s : Step) → Stands lent s numbers → Same (play_on bytes sent numbers (told_step s)) (then (on_line line) sent s)
-    one_more sent numbers (Next r word) e =
+    one_more : (sent numbers : List ℕ) (s : Handed) → Stands lent s numbers → Same (play_on bytes sent numbers (told_step s)) (then (on_line line) sent s)
+    one_more sent numbers (Ok (Next r word)) e =
         let b = bytes (word ∷ sent) in
         rw (e, made (word ∷ sent)) (record { sent = refl; last = step_told r b; stands = step_stands r b })
-    one_more sent numbers (End r k) e = record { sent = refl; last = refl; stands = e }
-    one_more sent numbers (Refused n) e = record { sent = refl; last = refl; stands = tt }
+    one_more sent numbers (Ok (End r k)) e = record { sent = refl; last = refl; stands = e }
+    one_more sent numbers (Err n) e = record { sent = refl; last = refl; stands = tt }
 
     goes_on : (p : Played) (h : History) → Same p h → Same (play_on bytes p.sent p.numbers p.last) (tick_by (on_line line) h)
     goes_on p h s = rw (s.sent, s.last) (one_more h.sent p.numbers h.last s.stands)
@@ -86,10 +86,10 @@ module _ (lent : List ℕ) where
   unfolding start_answer start_run start_of
   starts params h = rw (le-ltb (length lent) 6 h) (go (ltb 4095 params))
     where
-      first : Step
-      first = Next (round Asked 12 0 none) (request_word params 12 0)
+      first : Handed
+      first = Ok (Next (round Asked 12 0 none) (request_word params 12 0))
 
-      go : (b : Bool) → Same (record { sent = []; numbers = cond b lent (run_after lent (cond b (Refused OutOfRange) first)); last = cond b (refusal 6) (told_step (cond b (Refused OutOfRange) first)) }) (record { sent = []; last = cond b (Refused OutOfRange) first })
+      go : (b : Bool) → Same (record { sent = []; numbers = cond b lent (run_after lent (cond b (Err OutOfRange) first)); last = cond b (refusal 6) (told_step (cond b (Err OutOfRange) first)) }) (record { sent = []; last = cond b (Err OutOfRange) first })
       go true = record { sent = refl; last = refl; stands = tt }
       go false = record { sent = refl; last = refl; stands = refl }
 

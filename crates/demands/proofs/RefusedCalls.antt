@@ -6,10 +6,11 @@ use mathlib.Core.List.{List, [], ◌∷◌, ◌++◌}
 use Prim.Native.Nat.{ℕ, zero, suc}
 use lib.Dec.{eqb, ltb, leb}
 use lib.ListN.{length, get_or, drop}
+use Rattle.std.specs.Prelude.{Ok, Err}
 use Rattle.refusals.specs.declared.Refusal.{Refusal}
 use Rattle.refusals.specs.declared.Refusal.TheVariants.{OutOfRange, ImpossibleRound}
 use Rattle.refusals.specs.Refusals.{number_of}
-use Rattle.refusals.specs.Told.{Told, gives, refusal, refusing}
+use Rattle.refusals.specs.Told.{Told, gives, refusal, refusing, told}
 use Rattle.frames.specs.Words.{f_code_of, word_in}
 use Rattle.rows.specs.Rows.{reserved, data_bytes, blocks, block_bytes, frame_bytes}
 use Rattle.frames.specs.Blocks.{all_right}
@@ -22,13 +23,12 @@ use Rattle.groups.specs.Groups.{request_word, Place, over, at, follows}
 use Rattle.groups.specs.Sets.{how_many}
 use Rattle.groups.specs.Search.{search_of}
 use Rattle.search.specs.Searches.{in_set, search_by, searched, written}
-use Rattle.rounds.specs.declared.Step.{Step}
-use Rattle.rounds.specs.declared.Step.TheVariants.{Next, End, Refused}
+use Rattle.rounds.specs.declared.Step.TheVariants.{Next, End}
 use Rattle.rounds.specs.declared.Phase.TheVariants.{Asked}
 use Rattle.rounds.specs.declared.Counts.{Counts}
 use Rattle.rounds.specs.declared.Round.{Round}
-use Rattle.rounds.specs.Rounds.{counts_of, round, one_request, one_unresolved, Verdict, nobody, named, unclear, judge, stand, heard, impossible, ended, reading, step_by, step_of, none, start_of}
-use Rattle.rounds.specs.Told.{told}
+use Rattle.rounds.specs.Rounds.{round, one_request, one_unresolved, Verdict, nobody, named, unclear, judge, stand, heard, impossible, ended, reading, step_by, Handed, step_of, none, start_of}
+use Rattle.rounds.specs.Told.{step_values}
 use Rattle.mvb.specs.Rounds.{round_in, told_step, run_after, start_answer, start_run, round_answer, round_run}
 use Rattle.mvb.specs.Searches.{search_answer, search_requests}
 use Rattle.demands.specs.Demand1.{Refusing}
@@ -93,24 +93,24 @@ module _ (set out : List ℕ) where
 -- ---- the round
 
 -- a step that may refuse so, and not otherwise
-abbrev By : Refusal → Step → Type 0
-By R (Next r word) = Unit {0}
-By R (End r k) = Unit {0}
-By R (Refused n) = n ≡ R
+abbrev By : Refusal → Handed → Type 0
+By R (Ok (Next r word)) = Unit {0}
+By R (Ok (End r k)) = Unit {0}
+By R (Err n) = n ≡ R
 
 start_by_lem : (params : ℕ) → By OutOfRange (start_of params)
 unfolding start_of
 start_by_lem params = go (ltb 4095 params)
   where
-    go : (b : Bool) → By OutOfRange (cond b (Refused OutOfRange) (Next (round Asked 12 0 none) (request_word params 12 0)))
+    go : (b : Bool) → By OutOfRange (cond b (Err OutOfRange) (Ok (Next (round Asked 12 0 none) (request_word params 12 0))))
     go true = refl
     go false = tt
 
-stand_by : (p : Place) (k : Counts) → By ImpossibleRound (stand p k)
+stand_by : (p : Place) (k : Counts) → By ImpossibleRound (Ok (stand p k))
 stand_by over k = tt
 stand_by (at m c) k = tt
 
-heard_by : (v : Verdict) (m c : ℕ) (k : Counts) → By ImpossibleRound (heard v m c k)
+heard_by : (v : Verdict) (m c : ℕ) (k : Counts) → By ImpossibleRound (Ok (heard v m c k))
 heard_by nobody m c k = stand_by (follows m c) k
 heard_by (named word) m c k = tt
 heard_by unclear zero c k = stand_by (follows zero c) (one_unresolved k)
@@ -119,32 +119,32 @@ heard_by unclear (suc m) c k = tt
 step_by_lem : (r : Round) (answer : LineAnswer) → By ImpossibleRound (step_of r answer)
 unfolding step_by
 step_by_lem r answer =
-    go (ended r.phase) (impossible 8190 follows r) (reading r.phase) _ _ (stand_by (follows r.m r.c) (counts_of r))
-    (heard_by (judge r.m r.c answer) r.m r.c (one_request (counts_of r)))
+    go (ended r.phase) (impossible 8190 follows r) (reading r.phase) _ _ (stand_by (follows r.m r.c) r.counts)
+    (heard_by (judge r.m r.c answer) r.m r.c (one_request r.counts))
   where
-    go : (a b c : Bool) (s t : Step) → By ImpossibleRound s → By ImpossibleRound t → By ImpossibleRound (cond a (End r (counts_of r)) (cond b (Refused ImpossibleRound) (cond c s t)))
+    go : (a b c : Bool) (s t : Handed) → By ImpossibleRound s → By ImpossibleRound t → By ImpossibleRound (cond a (Ok (End r r.counts)) (cond b (Err ImpossibleRound) (cond c s t)))
     go true b c s t p q = tt
     go false true c s t p q = refl
     go false false true s t p q = p
     go false false false s t p q = q
 
 -- what it tells
-telling : (ns : List ℕ) (R : Refusal) (s : Step) → By R s → is_listed ns (number_of R) ≡ true → Refusing ns (told s) (Unit {0})
-telling ns R (Next r word) b h = answers _
-telling ns R (End r k) b h = answers _
-telling ns R (Refused n) b h = told_so (ap refusing b) (λ u. u) (refuses (number_of R) (listed ns (number_of R) h) tt)
+telling : (ns : List ℕ) (R : Refusal) (s : Handed) → By R s → is_listed ns (number_of R) ≡ true → Refusing ns (told step_values s) (Unit {0})
+telling ns R (Ok (Next r word)) b h = answers _
+telling ns R (Ok (End r k)) b h = answers _
+telling ns R (Err n) b h = told_so (ap refusing b) (λ u. u) (refuses (number_of R) (listed ns (number_of R) h) tt)
 
-pub round_start : (params : ℕ) → Refusing (6 ∷ []) (told (start_of params)) (Unit {0})
+pub round_start : (params : ℕ) → Refusing (6 ∷ []) (told step_values (start_of params)) (Unit {0})
 round_start params = telling (6 ∷ []) OutOfRange (start_of params) (start_by_lem params) refl
 
-pub round_answer_lem : (r : Round) (answer : LineAnswer) → Refusing (18 ∷ []) (told (step_of r answer)) (Unit {0})
+pub round_answer_lem : (r : Round) (answer : LineAnswer) → Refusing (18 ∷ []) (told step_values (step_of r answer)) (Unit {0})
 round_answer_lem r answer = telling (18 ∷ []) ImpossibleRound (step_of r answer) (step_by_lem r answer) refl
 
 -- the same as C sees it, and the run it leaves
-telling_c : (ns : List ℕ) (R : Refusal) (run : List ℕ) (s : Step) → By R s → is_listed ns (number_of R) ≡ true → Refusing ns (told_step s) (run_after run s ≡ run)
-telling_c ns R run (Next r word) b h = answers _
-telling_c ns R run (End r k) b h = answers _
-telling_c ns R run (Refused n) b h = told_so (ap refusing b) (λ u. u) (refuses (number_of R) (listed ns (number_of R) h) refl)
+telling_c : (ns : List ℕ) (R : Refusal) (run : List ℕ) (s : Handed) → By R s → is_listed ns (number_of R) ≡ true → Refusing ns (told_step s) (run_after run s ≡ run)
+telling_c ns R run (Ok (Next r word)) b h = answers _
+telling_c ns R run (Ok (End r k)) b h = answers _
+telling_c ns R run (Err n) b h = told_so (ap refusing b) (λ u. u) (refuses (number_of R) (listed ns (number_of R) h) refl)
 
 pub mvb_round_start_lem : (params : ℕ) (run : List ℕ) → Refusing (6 ∷ 4 ∷ []) (start_answer params (length run)) (start_run params run ≡ run)
 unfolding start_answer start_run
@@ -155,7 +155,7 @@ mvb_round_start_lem params run =
 pub mvb_round_answer_lem : (run bytes : List ℕ) → Refusing (4 ∷ 18 ∷ []) (round_answer run bytes) (round_run run bytes ≡ run)
 unfolding round_answer round_run
 mvb_round_answer_lem run bytes =
-    let s : Step = step_of (round_in run) (answer_of bytes) in
+    let s : Handed = step_of (round_in run) (answer_of bytes) in
     after (4 ∷ 18 ∷ []) ((ltb (length run) 6, 4) ∷ []) (told_step s) (cond (ltb 1 (get_or run 0 0)) run (run_after run s)) run refl
     (told_so refl (over_again (ltb 1 (get_or run 0 0)) (run_after run s)) (telling_c (4 ∷ 18 ∷ []) ImpossibleRound run s (step_by_lem (round_in run) (answer_of bytes)) refl))
   where

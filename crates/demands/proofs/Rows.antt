@@ -15,6 +15,8 @@ use Rattle.refusals.specs.declared.Refusal.{Refusal}
 use Rattle.refusals.specs.Told.{told, single}
 use Rattle.refusals.proofs.Apart.{told_apart, singles_apart, never_both, refusals_apart}
 use Rattle.refusals.proofs as refusals
+use Rattle.refusals.specs.Told.{single}
+use Rattle.refusals.proofs.Apart.{told_apart, singles_apart}
 use Rattle.refusals.proofs.Codes.{value_told, codes_apart}
 use Rattle.checks.specs.Bits.{bits_of}
 use Rattle.checks.specs.Check.{plain, check_bits, check_of as check_of_bytes}
@@ -22,14 +24,16 @@ use Rattle.checks.proofs.Numbers.{number_byte_lt}
 use Rattle.checks.proofs.Parity.{length_plain}
 use Rattle.checks.proofs as checks
 use Rattle.rows.proofs as row-table
+use Rattle.runs.proofs as runs
 use Rattle.frames.proofs as frames
 use Rattle.frames.specs.declared.LineAnswer.{LineAnswer}
 use Rattle.frames.specs.declared.LineAnswer.TheVariants.{Silence, Reply, Collision}
 use Rattle.frames.specs.Answers.{told_line}
 use Rattle.frames.specs.Line.{answer_of}
-use Rattle.frames.proofs.Apart.{words_apart, wrote_apart, lines_apart}
+use Rattle.frames.proofs.Apart.{lines_apart}
 use Rattle.timing.proofs as timing
-use Rattle.timing.proofs.Apart.{telegrams_apart, guards_apart}
+use Rattle.timing.specs.Answers.{yes}
+use Rattle.timing.proofs.Apart.{yes_apart}
 use Rattle.groups.proofs as groups
 use Rattle.rounds.proofs as rounds
 use Rattle.rounds.proofs.Apart.{steps_apart}
@@ -138,12 +142,20 @@ row_of = record {
   one = λ κs a r s ws vs c d. (c ∙ sym d, refl);
 }
 
+pub copy_front : Shown table.copy_front
+copy_front = record {
+  promised = λ M 𝓤 𝓛 𝓜 𝓡. runs.copy_front.Met.met 𝓤 𝓛 𝓜 (within 𝓤 𝓛.H 𝓜 𝓡 program) has.runs_copy_front;
+  says = said table.copy_front _ (λ M 𝓤 𝓛 mem run κs a. refl);
+  refusing = λ κs a r ws c. answers _;
+  one = λ κs a r s ws vs c d. (refl, ap (λ (x : List ℕ). (tt, (x, tt))) (c ∙ sym d));
+}
+
 pub master_read : Shown table.master_read
 master_read = record {
   promised = λ M 𝓤 𝓛 𝓜 𝓡. frames.master_read.Met.met 𝓤 𝓛 𝓜 (within 𝓤 𝓛.H 𝓜 𝓡 program) has.frames_master_read;
   says = said table.master_read _ (λ M 𝓤 𝓛 mem run κs a. refl);
   refusing = λ κs a r ws c. told_so c (λ u. refl) (calls.master_read_lem a.0.now);
-  one = λ κs a r s ws vs c d. (words_apart r s (c ∙ sym d), refl);
+  one = λ κs a r s ws vs c d. (told_apart single singles_apart r s (c ∙ sym d), refl);
 }
 
 pub master_write : Shown table.master_write
@@ -151,7 +163,7 @@ master_write = record {
   promised = λ M 𝓤 𝓛 𝓜 𝓡. frames.master_write.Met.met 𝓤 𝓛 𝓜 (within 𝓤 𝓛.H 𝓜 𝓡 program) has.frames_master_write;
   says = said table.master_write _ (λ M 𝓤 𝓛 mem run κs a. refl);
   refusing = λ κs a r ws c. told_so c.0 (λ e. ap (λ (x : List ℕ). (a.0, (at_last a.1.0 x, tt))) (c.1 ∙ e)) (calls.master_write_lem a.0 a.1.0.now);
-  one = λ κs a r s ws vs c d. (wrote_apart r s (c.0 ∙ sym d.0), ap (λ (x : List ℕ). (tt, (x, tt))) (c.1 ∙ sym d.1));
+  one = λ κs a r s ws vs c d. (told_apart single singles_apart r s (c.0 ∙ sym d.0), ap (λ (x : List ℕ). (tt, (x, tt))) (c.1 ∙ sym d.1));
 }
 
 pub slave_read : Shown table.slave_read
@@ -159,7 +171,7 @@ slave_read = record {
   promised = λ M 𝓤 𝓛 𝓜 𝓡. frames.slave_read.Met.met 𝓤 𝓛 𝓜 (within 𝓤 𝓛.H 𝓜 𝓡 program) has.frames_slave_read;
   says = said table.slave_read _ (λ M 𝓤 𝓛 mem run κs a. refl);
   refusing = λ κs a r ws c. told_so c.0 (λ e. ap (λ (x : List ℕ). (a.0, (a.1.0, (at_last a.1.1.0 x, tt)))) (c.1 ∙ e)) (calls.slave_read_lem a.0 a.1.0.now a.1.1.0.now);
-  one = λ κs a r s ws vs c d. (wrote_apart r s (c.0 ∙ sym d.0), ap (λ (x : List ℕ). (tt, (tt, (x, tt)))) (c.1 ∙ sym d.1));
+  one = λ κs a r s ws vs c d. (told_apart single singles_apart r s (c.0 ∙ sym d.0), ap (λ (x : List ℕ). (tt, (tt, (x, tt)))) (c.1 ∙ sym d.1));
 }
 
 pub slave_write : Shown table.slave_write
@@ -167,7 +179,7 @@ slave_write = record {
   promised = λ M 𝓤 𝓛 𝓜 𝓡. frames.slave_write.Met.met 𝓤 𝓛 𝓜 (within 𝓤 𝓛.H 𝓜 𝓡 program) has.frames_slave_write;
   says = said table.slave_write _ (λ M 𝓤 𝓛 mem run κs a. refl);
   refusing = λ κs a r ws c. told_so c.0 (λ e. ap (λ (x : List ℕ). (a.0, (a.1.0, (at_last a.1.1.0 x, tt)))) (c.1 ∙ e)) (calls.slave_write_lem a.0 a.1.0.now a.1.1.0.now);
-  one = λ κs a r s ws vs c d. (wrote_apart r s (c.0 ∙ sym d.0), ap (λ (x : List ℕ). (tt, (tt, (x, tt)))) (c.1 ∙ sym d.1));
+  one = λ κs a r s ws vs c d. (told_apart single singles_apart r s (c.0 ∙ sym d.0), ap (λ (x : List ℕ). (tt, (tt, (x, tt)))) (c.1 ∙ sym d.1));
 }
 
 pub line_answer : Shown table.line_answer
@@ -223,7 +235,7 @@ telegram_bits = record {
   promised = λ M 𝓤 𝓛 𝓜 𝓡. timing.telegram_bits.Met.met 𝓤 𝓛 𝓜 (within 𝓤 𝓛.H 𝓜 𝓡 program) has.timing_telegram_bits;
   says = said table.telegram_bits _ (λ M 𝓤 𝓛 mem run κs a. refl);
   refusing = λ κs a r ws c. told_so c (λ u. refl) (calls.telegram a.0 a.1.0);
-  one = λ κs a r s ws vs c d. (telegrams_apart r s (c ∙ sym d), refl);
+  one = λ κs a r s ws vs c d. (told_apart single singles_apart r s (c ∙ sym d), refl);
 }
 
 pub guard : Shown table.guard
@@ -231,7 +243,7 @@ guard = record {
   promised = λ M 𝓤 𝓛 𝓜 𝓡. timing.guard.Met.met 𝓤 𝓛 𝓜 (within 𝓤 𝓛.H 𝓜 𝓡 program) has.timing_guard;
   says = said table.guard _ (λ M 𝓤 𝓛 mem run κs a. refl);
   refusing = λ κs a r ws c. told_so c (λ u. refl) (calls.guarded a.0 a.1.0 a.1.1.0);
-  one = λ κs a r s ws vs c d. (guards_apart r s (c ∙ sym d), refl);
+  one = λ κs a r s ws vs c d. (told_apart yes yes_apart r s (c ∙ sym d), refl);
 }
 
 pub mvb_telegram_bits : Shown table.mvb_telegram_bits
@@ -513,4 +525,4 @@ mvb_search = record {
 -- all of them, in the order of the table
 pub rows : EachShown table.entry_points
 rows =
-    (refusal_number, (refusal_code, (check_of, (check_of_word, (row_of, (master_read, (master_write, (slave_read, (slave_write, (line_answer, (mvb_check_of, (mvb_master_read, (mvb_master_write, (mvb_slave_read, (mvb_slave_write, (telegram_bits, (guard, (mvb_telegram_bits, (mvb_guard, (number_at, (reader_new, (reader_next, (read_number, (read_numbers, (sum_numbers, (cycles_of, (periods_of, (list_check, (basic_period, (list_text, (mvb_list_check, (mvb_basic_period, (mvb_list_text, (look, (test_table, (mvb_arrive, (mvb_answer, (mvb_read, (mvb_fill, (mvb_tick, (bound, (is_group, (in_group, (round_start, (round_answer, (search_set, (mvb_round_start, (mvb_round_answer, (mvb_search, tt)))))))))))))))))))))))))))))))))))))))))))))))))
+    (refusal_number, (refusal_code, (check_of, (check_of_word, (row_of, (copy_front, (master_read, (master_write, (slave_read, (slave_write, (line_answer, (mvb_check_of, (mvb_master_read, (mvb_master_write, (mvb_slave_read, (mvb_slave_write, (telegram_bits, (guard, (mvb_telegram_bits, (mvb_guard, (number_at, (reader_new, (reader_next, (read_number, (read_numbers, (sum_numbers, (cycles_of, (periods_of, (list_check, (basic_period, (list_text, (mvb_list_check, (mvb_basic_period, (mvb_list_text, (look, (test_table, (mvb_arrive, (mvb_answer, (mvb_read, (mvb_fill, (mvb_tick, (bound, (is_group, (in_group, (round_start, (round_answer, (search_set, (mvb_round_start, (mvb_round_answer, (mvb_search, tt))))))))))))))))))))))))))))))))))))))))))))))))))

@@ -4,19 +4,18 @@
 -- all, a round ends after at most 8,191 requests, and the count it reports is the number of requests it handed out."
 -- A history is what was sent in a round and what its last call handed back; `run line params n` is the one after n words and their answers.
 -- Assumes nothing.
-use Rattle.std.specs.Prelude.{◌≡◌, Bool, false, ◌||◌, ℕ, zero, suc, ◌+◌, ◌*◌, ◌/◌, ◌≤◌, ◌<◌, eqb, length}
+use Rattle.std.specs.Prelude.{◌≡◌, Bool, false, ◌||◌, ℕ, zero, suc, ◌+◌, ◌*◌, ◌/◌, ◌≤◌, ◌<◌, eqb, length, Ok, Err}
 use mathlib.Core.List.{List, [], ◌∷◌, Memᴰ}
-use Rattle.refusals.specs.Told.{Told, gives, refused}
+use Rattle.refusals.specs.Told.{Told, gives, refused, told}
 use Rattle.frames.specs.declared.LineAnswer.{LineAnswer}
 use Rattle.frames.specs.Answers.{told_line}
 use Rattle.frames.specs.Line.{answer_of, line_answer}
 use Rattle.groups.specs.Sets.{Rising}
 use Rattle.rounds.specs.declared.Counts.{Counts}
 use Rattle.rounds.specs.declared.Round.{Round}
-use Rattle.rounds.specs.declared.Step.{Step}
-use Rattle.rounds.specs.declared.Step.TheVariants.{Next, End, Refused}
-use Rattle.rounds.specs.Rounds.{start_of, step_of}
-use Rattle.rounds.specs.Told.{told}
+use Rattle.rounds.specs.declared.Step.TheVariants.{Next, End}
+use Rattle.rounds.specs.Rounds.{Handed, start_of, step_of}
+use Rattle.rounds.specs.Told.{step_values}
 use Rattle.rounds.specs.Lines.{Line, History, run, is_request, counted, Right}
 use Rattle.rounds.specs.Demand.{Truthful, read_order}
 use Rattle.rounds.specs.Bytes.{ByteLine, MadeFrom, TruthfulBytes}
@@ -55,7 +54,7 @@ requests_in h = counted is_request h.sent
 pub record EachRead (k : ℕ) (ds : Devices k) (h : History) : Type 0 where
   pub round : Round
   pub counts : Counts
-  pub over : h.last ≡ End round counts
+  pub over : h.last ≡ Ok (End round counts)
   pub once : (a : ℕ) → times a (read_order h.sent) ≡ one (have ds a)
   pub order : Rising 0 (read_order h.sent)
   pub most : requests_in h ≤ 1 + 24 * (k / 2)
@@ -67,7 +66,7 @@ pub record EachRead (k : ℕ) (ds : Devices k) (h : History) : Type 0 where
 pub record Ends (h : History) : Type 0 where
   pub round : Round
   pub counts : Counts
-  pub over : h.last ≡ End round counts
+  pub over : h.last ≡ Ok (End round counts)
   pub most : requests_in h ≤ 8191
   pub requests : counts.requests ≡ requests_in h
 
@@ -96,10 +95,10 @@ abbrev pub played : ByteLine → ℕ → List ℕ → ℕ → Played
 played bytes params lent n = play_for bytes n (record { sent = []; numbers = start_run params lent; last = start_answer params (length lent) })
 
 -- the round that a step hands back stands in the run, and numbers beyond six are as they were lent
-abbrev pub Stands : List ℕ → Step → List ℕ → Type 0
-Stands lent (Next r word) numbers = numbers ≡ stored r lent
-Stands lent (End r k) numbers = numbers ≡ stored r lent
-Stands lent (Refused n) numbers = Unit {0}
+abbrev pub Stands : List ℕ → Handed → List ℕ → Type 0
+Stands lent (Ok (Next r word)) numbers = numbers ≡ stored r lent
+Stands lent (Ok (End r k)) numbers = numbers ≡ stored r lent
+Stands lent (Err n) numbers = Unit {0}
 
 -- a round is over after 12,287 words: 8,191 requests and 4,096 reads. Parameter bits are below 4,096, or the start refuses them
 pub record Demand3 : Type 0 where
@@ -117,8 +116,8 @@ pub record Demand3 : Type 0 where
   -- at every step, too, each count is the number of such events since the start, and no step is refused
   pub any_step : (params : ℕ) → params ≤ 4095 → (line : Line) (n : ℕ) → Right line (run line params n).sent (run line params n).last
   -- `run` is made of what the functions hand back: their promises allow nothing else
-  pub start_is : (params : ℕ) (s : Step) → told s ≡ told (start_of params) → s ≡ start_of params
-  pub step_is : (r : Round) (answer : LineAnswer) (s : Step) → told s ≡ told (step_of r answer) → s ≡ step_of r answer
+  pub start_is : (params : ℕ) (s : Handed) → told step_values s ≡ told step_values (start_of params) → s ≡ start_of params
+  pub step_is : (r : Round) (answer : LineAnswer) (s : Handed) → told step_values s ≡ told step_values (step_of r answer) → s ≡ step_of r answer
   pub answer_is : (bytes : List ℕ) (answer : LineAnswer) → told_line answer ≡ line_answer bytes → answer ≡ answer_of bytes
   -- and so does C: the same words, the same answers, and the round in its six numbers
   pub as_c_plays : (params : ℕ) (lent : List ℕ) → 6 ≤ length lent → (bytes : ByteLine) (line : Line) → MadeFrom bytes line → (n : ℕ)

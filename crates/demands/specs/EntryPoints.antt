@@ -21,12 +21,14 @@ use Rattle.checks.proofs as checks-run
 use Rattle.checks.specs.Bits.{one}
 use Rattle.rows.specs.contracts as row-table
 use Rattle.rows.proofs as row-table-run
+use Rattle.runs.specs.contracts as runs
+use Rattle.runs.proofs as runs-run
 use Rattle.frames.specs.contracts as frames
 use Rattle.frames.proofs as frames-run
-use Rattle.frames.specs.Answers.{told_word, told_wrote, told_line}
+use Rattle.frames.specs.Answers.{told_line}
 use Rattle.timing.specs.contracts as timing
 use Rattle.timing.proofs as timing-run
-use Rattle.timing.specs.Answers.{told_telegram, told_may_send}
+use Rattle.timing.specs.Answers.{yes}
 use Rattle.groups.specs.contracts as groups
 use Rattle.groups.proofs as groups-run
 use Rattle.rounds.specs.contracts as rounds
@@ -101,21 +103,25 @@ check_of_word = record { ended = checks.check_of_word.ended; routine = program c
 abbrev pub row_of : EntryPoint
 row_of = record { ended = row-table.row_of.ended; routine = program row-table-run.row_of.Symbol.name; promise = row-table.row_of.clauses; refuses = []; told = λ κs r. gives r; passed_back = λ κs e. e }
 
+-- one run of bytes to the front of another
+abbrev pub copy_front : EntryPoint
+copy_front = record { ended = runs.copy_front.ended; routine = program runs-run.copy_front.Symbol.name; promise = runs.copy_front.clauses; refuses = []; told = λ κs r. gives []; passed_back = λ κs e. e }
+
 -- "Master read: 1, 2, 3"
 abbrev pub master_read : EntryPoint
-master_read = record { ended = frames.master_read.ended; routine = program frames-run.master_read.Symbol.name; promise = frames.master_read.clauses; refuses = 1 ∷ 2 ∷ 3 ∷ []; told = λ κs r. told_word r; passed_back = λ κs e. e }
+master_read = record { ended = frames.master_read.ended; routine = program frames-run.master_read.Symbol.name; promise = frames.master_read.clauses; refuses = 1 ∷ 2 ∷ 3 ∷ []; told = λ κs r. told single r; passed_back = λ κs e. e }
 
 -- "Master write, of a word: 3, 4"
 abbrev pub master_write : EntryPoint
-master_write = record { ended = frames.master_write.ended; routine = program frames-run.master_write.Symbol.name; promise = frames.master_write.clauses; refuses = 3 ∷ 4 ∷ []; told = λ κs r. told_wrote r; passed_back = λ κs e. e }
+master_write = record { ended = frames.master_write.ended; routine = program frames-run.master_write.Symbol.name; promise = frames.master_write.clauses; refuses = 3 ∷ 4 ∷ []; told = λ κs r. told single r; passed_back = λ κs e. e }
 
 -- "Slave read: 3 (of the expected F_code; above 15 also 3), 1, 2, 4"
 abbrev pub slave_read : EntryPoint
-slave_read = record { ended = frames.slave_read.ended; routine = program frames-run.slave_read.Symbol.name; promise = frames.slave_read.clauses; refuses = 3 ∷ 1 ∷ 2 ∷ 4 ∷ []; told = λ κs r. told_wrote r; passed_back = λ κs e. e }
+slave_read = record { ended = frames.slave_read.ended; routine = program frames-run.slave_read.Symbol.name; promise = frames.slave_read.clauses; refuses = 3 ∷ 1 ∷ 2 ∷ 4 ∷ []; told = λ κs r. told single r; passed_back = λ κs e. e }
 
 -- "Slave write: 3, 1, 4"
 abbrev pub slave_write : EntryPoint
-slave_write = record { ended = frames.slave_write.ended; routine = program frames-run.slave_write.Symbol.name; promise = frames.slave_write.clauses; refuses = 3 ∷ 1 ∷ 4 ∷ []; told = λ κs r. told_wrote r; passed_back = λ κs e. e }
+slave_write = record { ended = frames.slave_write.ended; routine = program frames-run.slave_write.Symbol.name; promise = frames.slave_write.clauses; refuses = 3 ∷ 1 ∷ 4 ∷ []; told = λ κs r. told single r; passed_back = λ κs e. e }
 
 -- silence, a reply or a collision, of any bytes
 abbrev pub line_answer : EntryPoint
@@ -145,11 +151,11 @@ mvb_slave_write = record { ended = mvb.frame_calls.mvb_slave_write.ended; routin
 
 -- "A telegram takes 33 + line bits of its Slave Frame + gap"
 abbrev pub telegram_bits : EntryPoint
-telegram_bits = record { ended = timing.telegram_bits.ended; routine = program timing-run.telegram_bits.Symbol.name; promise = timing.telegram_bits.clauses; refuses = 3 ∷ 6 ∷ []; told = λ κs r. told_telegram r; passed_back = λ κs e. e }
+telegram_bits = record { ended = timing.telegram_bits.ended; routine = program timing-run.telegram_bits.Symbol.name; promise = timing.telegram_bits.clauses; refuses = 3 ∷ 6 ∷ []; told = λ κs r. told single r; passed_back = λ κs e. e }
 
 -- "Guard ..: yes exactly if that telegram takes at most r"
 abbrev pub guard : EntryPoint
-guard = record { ended = timing.guard.ended; routine = program timing-run.guard.Symbol.name; promise = timing.guard.clauses; refuses = 3 ∷ 6 ∷ []; told = λ κs r. told_may_send r; passed_back = λ κs e. e }
+guard = record { ended = timing.guard.ended; routine = program timing-run.guard.Symbol.name; promise = timing.guard.clauses; refuses = 3 ∷ 6 ∷ []; told = λ κs r. told yes r; passed_back = λ κs e. e }
 
 -- the same as C calls it
 abbrev pub mvb_telegram_bits : EntryPoint
@@ -263,11 +269,11 @@ in_group = record { ended = groups.in_group.ended; routine = program groups-run.
 
 -- the start
 abbrev pub round_start : EntryPoint
-round_start = record { ended = rounds.Round.start.ended; routine = program rounds-run.Round.start.Symbol.name; promise = rounds.Round.start.clauses; refuses = 6 ∷ []; told = λ κs r. Rounds.told r; passed_back = λ κs e. e }
+round_start = record { ended = rounds.Round.start.ended; routine = program rounds-run.Round.start.Symbol.name; promise = rounds.Round.start.clauses; refuses = 6 ∷ []; told = λ κs r. told Rounds.step_values r; passed_back = λ κs e. e }
 
 -- a step
 abbrev pub round_answer : EntryPoint
-round_answer = record { ended = rounds.Round.answer.ended; routine = program rounds-run.Round.answer.Symbol.name; promise = rounds.Round.answer.clauses; refuses = 18 ∷ []; told = λ κs r. Rounds.told r; passed_back = λ κs e. e }
+round_answer = record { ended = rounds.Round.answer.ended; routine = program rounds-run.Round.answer.Symbol.name; promise = rounds.Round.answer.clauses; refuses = 18 ∷ []; told = λ κs r. told Rounds.step_values r; passed_back = λ κs e. e }
 
 -- the search over a lent set
 abbrev pub search_set : EntryPoint
@@ -288,4 +294,4 @@ mvb_search = record { ended = mvb.round_calls.mvb_search.ended; routine = progra
 -- all of them
 abbrev pub entry_points : List EntryPoint
 entry_points =
-    refusal_number ∷ refusal_code ∷ check_of ∷ check_of_word ∷ row_of ∷ master_read ∷ master_write ∷ slave_read ∷ slave_write ∷ line_answer ∷ mvb_check_of ∷ mvb_master_read ∷ mvb_master_write ∷ mvb_slave_read ∷ mvb_slave_write ∷ telegram_bits ∷ guard ∷ mvb_telegram_bits ∷ mvb_guard ∷ number_at ∷ reader_new ∷ reader_next ∷ read_number ∷ read_numbers ∷ sum_numbers ∷ cycles_of ∷ periods_of ∷ list_check ∷ basic_period ∷ list_text ∷ mvb_list_check ∷ mvb_basic_period ∷ mvb_list_text ∷ look ∷ test_table ∷ mvb_arrive ∷ mvb_answer ∷ mvb_read ∷ mvb_fill ∷ mvb_tick ∷ bound ∷ is_group ∷ in_group ∷ round_start ∷ round_answer ∷ search_set ∷ mvb_round_start ∷ mvb_round_answer ∷ mvb_search ∷ []
+    refusal_number ∷ refusal_code ∷ check_of ∷ check_of_word ∷ row_of ∷ copy_front ∷ master_read ∷ master_write ∷ slave_read ∷ slave_write ∷ line_answer ∷ mvb_check_of ∷ mvb_master_read ∷ mvb_master_write ∷ mvb_slave_read ∷ mvb_slave_write ∷ telegram_bits ∷ guard ∷ mvb_telegram_bits ∷ mvb_guard ∷ number_at ∷ reader_new ∷ reader_next ∷ read_number ∷ read_numbers ∷ sum_numbers ∷ cycles_of ∷ periods_of ∷ list_check ∷ basic_period ∷ list_text ∷ mvb_list_check ∷ mvb_basic_period ∷ mvb_list_text ∷ look ∷ test_table ∷ mvb_arrive ∷ mvb_answer ∷ mvb_read ∷ mvb_fill ∷ mvb_tick ∷ bound ∷ is_group ∷ in_group ∷ round_start ∷ round_answer ∷ search_set ∷ mvb_round_start ∷ mvb_round_answer ∷ mvb_search ∷ []

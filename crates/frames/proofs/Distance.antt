@@ -21,7 +21,8 @@ use Rattle.rows.specs.Rows.{data_bits, data_bytes, blocks, block_bytes}
 use Rattle.frames.specs.Blocks.{right_blocks}
 use Rattle.frames.specs.Accepted.{Accepted, master, slave, block_count, block_size, block_at}
 use Rattle.rows.proofs.Rows.{whole, block_most, same_shape}
-use Rattle.frames.proofs.RoundTrip.{empty, right_split, bytes_first, slave_accepted, master_accepted}
+use Rattle.frames.proofs.Turns.{right_split}
+use Rattle.frames.proofs.RoundTrip.{empty, bytes_first, slave_accepted, master_accepted}
 
 -- bytes are known by their bits
 bits_same : (d e : List ℕ) → length d ≡ length e → are_bytes d ≡ true → are_bytes e ≡ true → bits_of d ≡ bits_of e → d ≡ e

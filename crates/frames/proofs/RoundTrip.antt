@@ -4,11 +4,11 @@ use mathlib.Core.Path.{◌≡◌, refl, sym, ap, ap₂, ◌∙◌}
 use mathlib.Core.Bool.{Bool, true, false, cond, and-eq-true_iff}
 use mathlib.Core.List.{List, [], ◌∷◌, ◌++◌}
 use Prim.Native.Nat.{ℕ, zero, suc, ◌+◌, ◌-◌, ◌*◌, ◌≤◌, ◌<◌}
-use native.Mathlib.Nat.{suc-mul, suc_inj}
+use native.Mathlib.Nat.{suc-mul}
 use native.Mathlib.Numerals.{add-one}
 use native.Mathlib.Omega.{arith}
 use borrow.Author.Tests.{eq-eqb, eqb-true, not-false, ltb-true, ltb-false, le-ltb}
-use lib.Dec.{eqb, ltb}
+use lib.Dec.{ltb}
 use lib.Pow.{are_bytes}
 use lib.ListN.{length, get_or, take, drop, length-append, length-drop, take-append-drop}
 use lib.Seq.{take_at, drop_at, get_or_at, drop-drop, length-take-le, split_at}
@@ -20,6 +20,7 @@ use Rattle.frames.specs.Blocks.{framed, data_in, right_blocks}
 use Rattle.frames.specs.Master.{master_frame, master_read, master_write, master_write_out}
 use Rattle.frames.specs.Slave.{slave_frame, slave_data, slave_read, slave_read_out, slave_write, slave_write_out}
 use Rattle.rows.proofs.Rows.{full, whole}
+use Rattle.frames.proofs.Turns.{right_split}
 use Rattle.frames.proofs.Order.{read_done, write_done}
 
 -- ---- blocks
@@ -82,16 +83,6 @@ data_length (suc k) n w e =
     let ih : length (data_in k n (drop (n + 1) w)) ≡ k * n = data_length k n (drop (n + 1) w) (omega arith) in
     let a : length (take n w ++ data_in k n (drop (n + 1) w)) ≡ length (take n w) + length (data_in k n (drop (n + 1) w)) = length-append (take n w) (data_in k n (drop (n + 1) w)) in
     omega (arith, suc-mul k n)
-
--- all of `suc k` blocks are right: the first is, and so are the others
-first_right : (t : Bool) (r k : ℕ) → cond t (suc r) zero ≡ suc k → (t ≡ true) × (r ≡ k)
-first_right true r k e = (refl, suc_inj e)
-first_right false r k e = absurd (omega arith)
-
-pub right_split : (k n : ℕ) (w : List ℕ) → right_blocks (suc k) n w ≡ suc k → (check_of (take n w) ≡ get_or w n 0) × (right_blocks k n (drop (n + 1) w) ≡ k)
-right_split k n w r =
-    let p = first_right (eqb (check_of (take n w)) (get_or w n 0)) (right_blocks k n (drop (n + 1) w)) k r in
-    (eqb-true (check_of (take n w)) (get_or w n 0) p.0, p.1)
 
 right_framed : (k n : ℕ) (w : List ℕ) → length w ≡ k * (n + 1) → right_blocks k n w ≡ k → framed k n (data_in k n w) ≡ w
 right_framed zero n w e r = empty w (let z : length w ≡ 0 = omega arith in z)

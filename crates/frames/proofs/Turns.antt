@@ -1,64 +1,18 @@
--- A loop that makes a list piece by piece at the start of a lent output: the data of a frame, or a frame.
+-- A frame block by block, from the front: what one block more adds.
 -- Assumes nothing.
-use mathlib.Core.Path.{◌≡◌, refl, sym, ap, ap₂, ◌∙◌, subst₂}
-use mathlib.Core.List.{List, [], ◌∷◌, ◌++◌, append_assoc, append-nil}
-use Prim.Native.Nat.{ℕ, ◌+◌, ◌-◌, ◌*◌, ◌≤◌, ◌<◌}
-use native.Mathlib.Numerals.{add-one}
-use native.Mathlib.Omega.{arith}
+use Rattle.std.proofs.Common.{◌≡◌, ℕ, zero, suc, ◌+◌, ◌-◌, ◌*◌, ◌<◌, ◌≤◌, Bool, true, false, cond, eqb, List, [], ◌∷◌, ◌++◌, refl, sym, ap, ap₂, ◌∙◌, arith, length, get_or, set, take, drop, append_assoc, append-nil, length-append, length-drop}
+use Rattle.std.proofs.lemmas.Bool.{eq-eqb, ne_eqb}
+use Rattle.std.proofs.lemmas.List.{length-take-le, take-append-drop, take_at, drop_at, take_all}
+use Rattle.std.proofs.lemmas.Slice.{take-put_mid, drop-put_mid}
+use borrow.Author.Tests.{eqb-true}
 use borrow.Rule.Slice.PartMut.{put_mid}
-use lib.ListN.{length, take, drop, set, length-drop, length-set, drop_of_length-le, take-append-drop}
-use lib.Seq.{take_all, take-take, drop-drop, paste, length-paste, take-paste, drop-paste, length-take-le, take-suc-set, drop-set-lt}
+use native.Mathlib.Nat.{suc-mul, suc_inj}
+use lib.ListN.{drop_of_length-le}
+use lib.Seq.{drop-drop, get_or-drop}
 use Rattle.checks.specs.Check.{check_of}
-use Rattle.frames.specs.Blocks.{data_in, framed}
-use Rattle.frames.proofs.BlockLaws.{room, room_all, done, data_first, framed_first}
+use Rattle.frames.specs.Blocks.{framed, data_in, right_blocks, all_right}
 
--- ---- the loop, whatever it makes
-
--- `made count src` is made from the front: each turn takes `step` of the source and adds `grow` to the output
-pub record Going (made : ℕ → List ℕ → List ℕ) (step grow : ℕ) (src out₀ out : List ℕ) (count at to left : ℕ) : Type 0 where
-  pub long : length out ≡ length out₀
-  pub ahead : at + left * step ≤ length src
-  pub after : to + left * grow ≡ count * grow
-  pub so_far : take to out ++ made left (drop at src) ≡ made count src
-  pub rest : drop to out ≡ drop to out₀
-
-pub going_start : (made : ℕ → List ℕ → List ℕ) (step grow : ℕ) (src out : List ℕ) (count : ℕ) → count * step ≤ length src → Going made step grow src out out count 0 0 count
-going_start made step grow src out count h = record { long = refl; ahead = omega arith; after = omega arith; so_far = refl; rest = refl }
-
-module _ {made : ℕ → List ℕ → List ℕ} {step grow : ℕ} {src out₀ out : List ℕ} {count at to left : ℕ} (g : Going made step grow src out₀ out count at to left) where
-  pub going_on : (piece : List ℕ) (out₁ : List ℕ) (at₁ to₁ : ℕ) → 0 < left
-      → made left (drop at src) ≡ piece ++ made (left - 1) (drop step (drop at src))
-      → length out₁ ≡ length out → take (to + grow) out₁ ≡ take to out ++ piece → drop (to + grow) out₁ ≡ drop (to + grow) out
-      → at + step ≡ at₁ → to + grow ≡ to₁ → Going made step grow src out₀ out₁ count at₁ to₁ (left - 1)
-  going_on piece out₁ at₁ to₁ some first l t d ea et =
-      subst₂ (λ (a b : ℕ). Going made step grow src out₀ out₁ count a b (left - 1)) ea et
-      (record {
-        long = l ∙ g.long;
-        ahead = room at left step (length src) g.ahead some;
-        after = room_all to left grow (count * grow) g.after some;
-        so_far =
-            ap₂ ◌++◌ t (ap (made (left - 1)) (sym (drop-drop step at src)))
-            ∙ append_assoc (take to out) piece (made (left - 1) (drop step (drop at src)))
-            ∙ ap (λ (x : List ℕ). take to out ++ x) (sym first)
-            ∙ g.so_far;
-        rest = d ∙ sym (drop-drop grow to out) ∙ ap (drop grow) g.rest ∙ drop-drop grow to out₀;
-      })
-
-  pub going_end : left ≡ 0 → made left (drop at src) ≡ [] → out ≡ made count src ++ drop (count * grow) out₀
-  going_end z none =
-      sym (take-append-drop to out)
-      ∙ ap₂ ◌++◌
-      (sym (append-nil (take to out)) ∙ ap (λ (x : List ℕ). take to out ++ x) (sym none) ∙ g.so_far)
-      (g.rest ∙ ap (λ (k : ℕ). drop k out₀) (done to left grow (count * grow) g.after z))
-
-  -- what a turn reads and writes lies within
-  pub going_in : 0 < left → at + step ≤ length src
-  going_in some = omega (arith, room at left step (length src) g.ahead some)
-
-  pub going_out : 0 < left → count * grow ≤ length out₀ → to + grow ≤ length out
-  going_out some h = omega (arith, room_all to left grow (count * grow) g.after some, g.long)
-
--- ---- a block copied into the part of the output that starts at `to`
+-- ---- places
 
 pub length_part : (at size : ℕ) (l : List ℕ) → at + size ≤ length l → length (take (at + size - at) (drop at l)) ≡ size
 length_part at size l h =
@@ -66,101 +20,179 @@ length_part at size l h =
     let e : length (take (at + size - at) (drop at l)) ≡ at + size - at = length-take-le (at + size - at) (drop at l) (omega arith) in
     omega arith
 
-lent_copy : (out src v : List ℕ) (to : ℕ) → to + length src ≤ length out
-    → v ≡ src ++ drop (length src) (take (length out - to) (drop to out))
-    → put_mid to (length out - to) out v ≡ paste out to src (length src)
-lent_copy out src v to h e =
-    ap (λ (z : List ℕ). take to out ++ z)
-    (ap₂ ◌++◌
-    (e ∙ ap₂ ◌++◌ (sym (take_all (length src) src (omega arith)))
-    (ap (drop (length src)) (take_all (length out - to) (drop to out) (let d : length (drop to out) ≡ length out - to = length-drop to out in omega arith))
-    ∙ drop-drop (length src) to out))
-    (drop-drop (length out - to) to out ∙ drop_of_length-le out {i = to + (length out - to)} (omega arith))
-    ∙ append-nil (take (length src) src ++ drop (to + length src) out))
-    ∙ sym (append_assoc (take to out) (take (length src) src) (drop (to + length src) out))
+-- the pieces before one of some, and that one, are no more than all
+pub within : (i count step len : ℕ) → i < count → count * step ≤ len → i * step + step ≤ len
+within i zero step len h g = absurd (omega arith)
+within zero (suc count) step len h g = omega (arith, suc-mul count step)
+within (suc i) (suc count) step len h g =
+    let ih : i * step + step ≤ len - step = within i count step (len - step) (omega arith) (omega (arith, suc-mul count step)) in
+    omega (arith, suc-mul count step, suc-mul i step)
 
--- what a copy of the block at `at` leaves, with `v` the lent part afterwards
-module _ (out src v : List ℕ) (at to size : ℕ) (h : at + size ≤ length src) (g : to + size ≤ length out)
-    (e : v ≡ take (at + size - at) (drop at src) ++ drop (length (take (at + size - at) (drop at src))) (take (length out - to) (drop to out))) where
-  copied : put_mid to (length out - to) out v ≡ paste out to (take size (drop at src)) size
-  copied =
-      let l : length (take (at + size - at) (drop at src)) ≡ size = length_part at size src h in
-      lent_copy out (take (at + size - at) (drop at src)) v to (omega arith) e
-      ∙ ap (paste out to (take (at + size - at) (drop at src))) l
-      ∙ ap (λ (k : ℕ). paste out to (take k (drop at src)) size) (let d : at + size - at ≡ size = omega arith in d)
+-- the first piece gone, one piece less is in front
+later : (i step a : ℕ) (w : List ℕ) → a ≡ suc i * step → (a - step ≡ i * step) × (drop (a - step) (drop step w) ≡ drop a w)
+later i step a w e =
+    let m : suc i * step ≡ i * step + step = suc-mul i step in
+    (omega arith, drop-drop (a - step) step w ∙ ap (λ (k : ℕ). drop k w) (let s : step + (a - step) ≡ a = omega arith in s))
 
-  length_block : size ≤ length (take size (drop at src))
-  length_block =
-      let d : length (drop at src) ≡ length src - at = length-drop at src in
-      let t : length (take size (drop at src)) ≡ size = length-take-le size (drop at src) (omega arith) in omega arith
+next : (i : ℕ) → suc i ≡ i + 1
+next i = omega arith
 
-  pub copied_length : length (put_mid to (length out - to) out v) ≡ length out
-  copied_length = ap length copied ∙ length-paste out to (take size (drop at src)) size g length_block
+-- ---- are the blocks right?
 
-  pub copied_take : take (to + size) (put_mid to (length out - to) out v) ≡ take to out ++ take size (drop at src)
-  copied_take =
-      ap (take (to + size)) copied ∙ take-paste out to (take size (drop at src)) size (omega arith) length_block
-      ∙ ap (λ (l : List ℕ). take to out ++ l) (take-take size size (drop at src) (omega arith))
+-- the first of some right blocks is right, and so are the others
+first_right : (t : Bool) (r k : ℕ) → cond t (suc r) zero ≡ suc k → (t ≡ true) × (r ≡ k)
+first_right true r k e = (refl, suc_inj e)
+first_right false r k e = absurd (omega arith)
 
-  pub copied_drop : drop (to + size) (put_mid to (length out - to) out v) ≡ drop (to + size) out
-  copied_drop = ap (drop (to + size)) copied ∙ drop-paste out to (take size (drop at src)) size (omega arith) length_block
+pub right_split : (k n : ℕ) (w : List ℕ) → right_blocks (suc k) n w ≡ suc k → (check_of (take n w) ≡ get_or w n 0) × (right_blocks k n (drop (n + 1) w) ≡ k)
+right_split k n w r =
+    let p = first_right (eqb (check_of (take n w)) (get_or w n 0)) (right_blocks k n (drop (n + 1) w)) k r in
+    (eqb-true (check_of (take n w)) (get_or w n 0) p.0, p.1)
 
--- ---- the two loops
+-- a run of blocks that is right as far as place a
+right_next : (i n a : ℕ) (w : List ℕ) → a ≡ i * (n + 1) → right_blocks i n w ≡ i → check_of (take n (drop a w)) ≡ get_or (drop a w) n 0 → right_blocks (suc i) n w ≡ suc i
+right_next zero n a w p h e = let z : a ≡ 0 = omega arith in let f = rw z at e in ap (λ (b : Bool). cond b 1 0) (eq-eqb _ _ f)
+right_next (suc i) n a w p h e =
+    let l = later i (n + 1) a w p in
+    let s = right_split i n w h in
+    ap₂ (λ (b : Bool) (k : ℕ). cond b (suc k) zero) (eq-eqb _ _ s.0) (right_next i n (a - (n + 1)) (drop (n + 1) w) l.0 s.1 (rw l.1 e))
 
-pub copy_turn : (out₀ out frame v : List ℕ) (count at to left size : ℕ) → Going (λ k w. data_in k size w) (size + 1) size frame out₀ out count at to left
-    → 0 < left → count * size ≤ length out₀
-    → v ≡ take (at + size - at) (drop at frame) ++ drop (length (take (at + size - at) (drop at frame))) (take (length out - to) (drop to out))
-    → Going (λ k w. data_in k size w) (size + 1) size frame out₀ (put_mid to (length out - to) out v) count (at + size + 1) (to + size) (left - 1)
-copy_turn out₀ out frame v count at to left size g some r e =
-    let i : at + size ≤ length frame = omega (arith, going_in g some) in
-    let o : to + size ≤ length out = going_out g some r in
-    going_on g (take size (drop at frame)) (put_mid to (length out - to) out v) (at + size + 1) (to + size) some
-    (data_first left size (drop at frame) some)
-    (copied_length out frame v at to size i o e) (copied_take out frame v at to size i o e) (copied_drop out frame v at to size i o e) (omega arith) refl
+wrong_next : (i count n a : ℕ) (w : List ℕ) → i < count → a ≡ i * (n + 1) → right_blocks i n w ≡ i → (check_of (take n (drop a w)) ≡ get_or (drop a w) n 0 → ⊥) → right_blocks count n w ≡ i
+wrong_next i zero n a w g p h e = absurd (omega arith)
+wrong_next zero (suc count) n a w g p h e =
+    let z : a ≡ 0 = omega arith in let f = rw z at e in ap (λ (b : Bool). cond b (suc (right_blocks count n (drop (n + 1) w))) zero) (ne_eqb _ _ f)
+wrong_next (suc i) (suc count) n a w g p h e =
+    let l = later i (n + 1) a w p in
+    let s = right_split i n w h in
+    ap₂ (λ (b : Bool) (k : ℕ). cond b (suc k) zero) (eq-eqb _ _ s.0) (wrong_next i count n (a - (n + 1)) (drop (n + 1) w) (omega arith) l.0 s.1 (rw l.1 e))
 
--- the check sequence behind a block
-module _ (p out block : List ℕ) (to size check : ℕ) (l : length p ≡ length out) (g : to + size + 1 ≤ length out)
-    (t : take (to + size) p ≡ take to out ++ block) (d : drop (to + size) p ≡ drop (to + size) out) where
-  pub checked_take : take (to + (size + 1)) (set p (to + size) check) ≡ take to out ++ (block ++ (check ∷ []))
-  checked_take =
-      ap (λ (k : ℕ). take k (set p (to + size) check)) (let e : to + (size + 1) ≡ to + size + 1 = omega arith in e ∙ add-one (to + size))
-      ∙ take-suc-set p (to + size) check (omega arith)
-      ∙ ap (λ (x : List ℕ). x ++ (check ∷ [])) t
-      ∙ append_assoc (take to out) block (check ∷ [])
+-- the check sequence of the block at hand, and the byte behind it
+module _ (frame : List ℕ) (i n check : ℕ) (h : right_blocks i n frame ≡ i) (c : check ≡ check_of (take (i * (n + 1) + n - i * (n + 1)) (drop (i * (n + 1)) frame))) where
+  abbrev at : ℕ
+  at = i * (n + 1)
 
-  pub checked_drop : drop (to + (size + 1)) (set p (to + size) check) ≡ drop (to + (size + 1)) out
-  checked_drop =
-      drop-set-lt (to + (size + 1)) p (to + size) check (omega arith)
-      ∙ ap (λ (k : ℕ). drop k p) (let e : to + (size + 1) ≡ to + size + 1 = omega arith in e)
-      ∙ sym (drop-drop 1 (to + size) p) ∙ ap (drop 1) d ∙ drop-drop 1 (to + size) out
-      ∙ ap (λ (k : ℕ). drop k out) (let e : to + size + 1 ≡ to + (size + 1) = omega arith in e)
+  behind : get_or (drop at frame) n 0 ≡ get_or frame (at + n) 0
+  behind = get_or-drop at frame n 0
 
-pub write_room : (out₀ out d : List ℕ) (count at to left size : ℕ) → Going (λ k w. framed k size w) size (size + 1) d out₀ out count at to left → 0 < left → count * (size + 1) ≤ length out₀ → to + size + 1 ≤ length out
-write_room out₀ out d count at to left size g some r = omega (arith, going_out g some r)
+  same : check ≡ check_of (take n (drop at frame))
+  same = c ∙ ap (λ (k : ℕ). check_of (take k (drop at frame))) (let e : at + n - at ≡ n = omega arith in e)
 
-pub write_turn : (out₀ out d v : List ℕ) (count at to left size check : ℕ) → Going (λ k w. framed k size w) size (size + 1) d out₀ out count at to left
-    → 0 < left → count * (size + 1) ≤ length out₀
-    → v ≡ take (at + size - at) (drop at d) ++ drop (length (take (at + size - at) (drop at d))) (take (length out - to) (drop to out))
-    → check ≡ check_of (take (at + size - at) (drop at d))
-    → Going (λ k w. framed k size w) size (size + 1) d out₀ (set (put_mid to (length out - to) out v) (to + size) check) count (at + size) (to + size + 1) (left - 1)
-write_turn out₀ out d v count at to left size check g some r e c =
-    let i : at + size ≤ length d = going_in g some in
-    let o : to + size + 1 ≤ length out = write_room out₀ out d count at to left size g some r in
-    let o' : to + size ≤ length out = omega arith in
-    let p : List ℕ = put_mid to (length out - to) out v in
-    let l : length p ≡ length out = copied_length out d v at to size i o' e in
-    let s : check ≡ check_of (take size (drop at d)) = c ∙ ap (λ (k : ℕ). check_of (take k (drop at d))) (let x : at + size - at ≡ size = omega arith in x) in
-    going_on g (take size (drop at d) ++ (check ∷ [])) (set p (to + size) check) (at + size) (to + size + 1) some
-    (framed_first left size (drop at d) some
-    ∙ ap (λ (x : ℕ). take size (drop at d) ++ x ∷ framed (left - 1) size (drop size (drop at d))) (sym s)
-    ∙ sym (append_assoc (take size (drop at d)) (check ∷ []) (framed (left - 1) size (drop size (drop at d)))))
-    (length-set p (to + size) check ∙ l)
-    (checked_take p out (take size (drop at d)) to size check l o (copied_take out d v at to size i o' e) (copied_drop out d v at to size i o' e))
-    (checked_drop p out (take size (drop at d)) to size check l o (copied_take out d v at to size i o' e) (copied_drop out d v at to size i o' e))
-    refl (omega arith)
+  pub right_here : check ≡ get_or frame (at + n) 0 → right_blocks (i + 1) n frame ≡ i + 1
+  right_here e =
+      ap (λ (k : ℕ). right_blocks k n frame) (sym (next i)) ∙ right_next i n at frame refl h (sym same ∙ e ∙ sym behind) ∙ next i
 
-pub nothing_copied : (k size : ℕ) (w : List ℕ) → k ≡ 0 → data_in k size w ≡ []
-nothing_copied k size w z = ap (λ (j : ℕ). data_in j size w) z
+  pub wrong_here : (count : ℕ) → i < count → (check ≡ get_or frame (at + n) 0 → ⊥) → false ≡ all_right count n frame
+  wrong_here count g e =
+      let r : right_blocks count n frame ≡ i = wrong_next i count n at frame g refl h (λ z. e (same ∙ z ∙ behind)) in
+      sym (ne_eqb (right_blocks count n frame) count (λ z. omega arith))
 
-pub nothing_framed : (k size : ℕ) (w : List ℕ) → k ≡ 0 → framed k size w ≡ []
-nothing_framed k size w z = ap (λ (j : ℕ). framed j size w) z
+pub right_all : (frame : List ℕ) (i count n : ℕ) → i ≤ count → count ≤ i → right_blocks i n frame ≡ i → true ≡ all_right count n frame
+right_all frame i count n g h r = let e : i ≡ count = omega arith in sym (eq-eqb _ _ (ap (λ (k : ℕ). right_blocks k n frame) (sym e) ∙ r ∙ e))
+
+-- ---- what is made of the blocks
+
+data_snoc : (i n a : ℕ) (w : List ℕ) → a ≡ i * (n + 1) → data_in (suc i) n w ≡ data_in i n w ++ take n (drop a w)
+data_snoc zero n a w p = let z : a ≡ 0 = omega arith in append-nil (take n w) ∙ ap (λ (k : ℕ). take n (drop k w)) (sym z)
+data_snoc (suc i) n a w p =
+    let l = later i (n + 1) a w p in
+    ap (λ (x : List ℕ). take n w ++ x) (data_snoc i n (a - (n + 1)) (drop (n + 1) w) l.0 ∙ ap (λ (x : List ℕ). data_in i n (drop (n + 1) w) ++ take n x) l.1)
+    ∙ sym (append_assoc (take n w) (data_in i n (drop (n + 1) w)) (take n (drop a w)))
+
+-- a block and its check sequence
+abbrev with_check : List ℕ → List ℕ
+with_check block = block ++ (check_of block ∷ [])
+
+framed_snoc : (i n a : ℕ) (d : List ℕ) → a ≡ i * n → framed (suc i) n d ≡ framed i n d ++ with_check (take n (drop a d))
+framed_snoc zero n a d p = let z : a ≡ 0 = omega arith in ap (λ (k : ℕ). with_check (take n (drop k d))) (sym z)
+framed_snoc (suc i) n a d p =
+    let l = later i n a d p in
+    ap (λ (x : List ℕ). take n d ++ check_of (take n d) ∷ x) (framed_snoc i n (a - n) (drop n d) l.0 ∙ ap (λ (x : List ℕ). framed i n (drop n d) ++ with_check (take n x)) l.1)
+    ∙ sym (append_assoc (take n d) (check_of (take n d) ∷ framed i n (drop n d)) (with_check (take n (drop a d))))
+
+pub data_length : (i n : ℕ) (w : List ℕ) → i * (n + 1) ≤ length w → length (data_in i n w) ≡ i * n
+data_length zero n w h = omega arith
+data_length (suc i) n w h =
+    let m : suc i * (n + 1) ≡ i * (n + 1) + (n + 1) = suc-mul i (n + 1) in
+    let ih : length (data_in i n (drop (n + 1) w)) ≡ i * n = data_length i n (drop (n + 1) w) (omega (arith, length-drop (n + 1) w)) in
+    omega (arith, length-append (take n w) (data_in i n (drop (n + 1) w)), length-take-le n w (omega arith), suc-mul i n)
+
+pub framed_length : (i n : ℕ) (d : List ℕ) → i * n ≤ length d → length (framed i n d) ≡ i * (n + 1)
+framed_length zero n d h = omega arith
+framed_length (suc i) n d h =
+    let m : suc i * n ≡ i * n + n = suc-mul i n in
+    let ih : length (framed i n (drop n d)) ≡ i * (n + 1) = framed_length i n (drop n d) (omega (arith, length-drop n d)) in
+    omega (arith, length-append (take n d) (check_of (take n d) ∷ framed i n (drop n d)), length-take-le n d (omega arith), suc-mul i (n + 1))
+
+-- ---- a piece behind what was made so far
+
+module _ (out init done piece : List ℕ) (a n : ℕ) (e : out ≡ done ++ drop a init) (l : length done ≡ a) (h : a + n ≤ length init) (k : length piece ≡ n) where
+  out_long : a + n ≤ length out
+  out_long = omega (arith, ap length e, length-append done (drop a init), length-drop a init)
+
+  pub laid : (v : List ℕ) → v ≡ piece → put_mid a (a + n - a) out v ≡ (done ++ piece) ++ drop (a + n) init
+  laid v f =
+      sym (take-append-drop (a + n) (put_mid a (a + n - a) out v))
+      ∙ ap₂ ◌++◌
+      (take-put_mid a (a + n - a) out v (a + n) (omega (arith, ap length f)) (omega (arith, out_long)) ∙ ap₂ ◌++◌ (ap (take a) e ∙ take_at done (drop a init) a l) f)
+      (drop-put_mid a (a + n - a) out v (a + n) (omega arith) (omega (arith, out_long)) (omega (arith, ap length f))
+      ∙ sym (drop-drop n a out) ∙ ap (λ (x : List ℕ). drop n (drop a x)) e ∙ ap (drop n) (drop_at done (drop a init) a l) ∙ drop-drop n a init)
+
+-- one byte more behind it
+set_behind : (done t : List ℕ) (c : ℕ) → 0 < length t → set (done ++ t) (length done) c ≡ done ++ (c ∷ drop 1 t)
+set_behind [] [] c h = absurd (omega arith)
+set_behind [] (x ∷ t) c h = refl
+set_behind (d ∷ done) t c h = ap (λ (l : List ℕ). d ∷ l) (set_behind done t c h)
+
+laid_check : (out init done : List ℕ) (a c : ℕ) → out ≡ done ++ drop a init → length done ≡ a → a < length init → set out a c ≡ (done ++ (c ∷ [])) ++ drop (a + 1) init
+laid_check out init done a c e l h =
+    ap₂ (λ (o : List ℕ) (k : ℕ). set o k c) e (sym l)
+    ∙ set_behind done (drop a init) c (omega (arith, length-drop a init))
+    ∙ ap (λ (t : List ℕ). done ++ (c ∷ t)) (drop-drop 1 a init)
+    ∙ sym (append_assoc done (c ∷ []) (drop (a + 1) init))
+
+-- ---- a turn of each loop
+
+-- the part of the source at hand, and the part of the output that was lent for it
+module _ (from out v : List ℕ) (at to n : ℕ) (h : at + n ≤ length from) (g : to + n ≤ length out)
+    (e : v ≡ take (at + n - at) (drop at from)) where
+  lent : v ≡ take n (drop at from)
+  lent = e ∙ ap (λ (k : ℕ). take k (drop at from)) (let s : at + n - at ≡ n = omega arith in s)
+
+pub copy_next : (frame out init v : List ℕ) (count i n : ℕ) → i < count → count * (n + 1) ≤ length frame → count * n ≤ length init
+    → out ≡ data_in i n frame ++ drop (i * n) init
+    → v ≡ take (i * (n + 1) + n - i * (n + 1)) (drop (i * (n + 1)) frame)
+    → put_mid (i * n) (i * n + n - i * n) out v ≡ data_in (i + 1) n frame ++ drop ((i + 1) * n) init
+copy_next frame out init v count i n some hf ho e f =
+    let at : ℕ = i * (n + 1) in
+    let to : ℕ = i * n in
+    let inf : at + (n + 1) ≤ length frame = within i count (n + 1) (length frame) some hf in
+    let ino : to + n ≤ length init = within i count n (length init) some ho in
+    let piece : List ℕ = take n (drop at frame) in
+    let k : length piece ≡ n = length-take-le n (drop at frame) (omega (arith, length-drop at frame)) in
+    let l : length (data_in i n frame) ≡ to = data_length i n frame (omega arith) in
+    laid out init (data_in i n frame) piece to n e l ino k v (lent frame out v at to n (omega arith) (out_long out init (data_in i n frame) piece to n e l ino k) f)
+    ∙ ap₂ ◌++◌ (sym (data_snoc i n at frame refl) ∙ ap (λ (j : ℕ). data_in j n frame) (next i))
+    (ap (λ (j : ℕ). drop j init) (let s : to + n ≡ (i + 1) * n = omega (arith, suc-mul i n, ap (λ (j : ℕ). j * n) (next i)) in s))
+
+pub write_next : (d out init v : List ℕ) (count i n c : ℕ) → i < count → count * n ≤ length d → count * (n + 1) ≤ length init
+    → out ≡ framed i n d ++ drop (i * (n + 1)) init
+    → v ≡ take (i * n + n - i * n) (drop (i * n) d)
+    → c ≡ check_of (take (i * n + n - i * n) (drop (i * n) d))
+    → set (put_mid (i * (n + 1)) (i * (n + 1) + n - i * (n + 1)) out v) (i * (n + 1) + n) c ≡ framed (i + 1) n d ++ drop ((i + 1) * (n + 1)) init
+write_next d out init v count i n c some hd ho e f g =
+    let at : ℕ = i * n in
+    let to : ℕ = i * (n + 1) in
+    let ind : at + n ≤ length d = within i count n (length d) some hd in
+    let ino : to + (n + 1) ≤ length init = within i count (n + 1) (length init) some ho in
+    let done : List ℕ = framed i n d in
+    let piece : List ℕ = take n (drop at d) in
+    let k : length piece ≡ n = length-take-le n (drop at d) (omega (arith, length-drop at d)) in
+    let l : length done ≡ to = framed_length i n d (omega arith) in
+    let h : to + n ≤ length init = omega arith in
+    let check : c ≡ check_of piece = g ∙ ap (λ (j : ℕ). check_of (take j (drop at d))) (let s : at + n - at ≡ n = omega arith in s) in
+    laid_check (put_mid to (to + n - to) out v) init (done ++ piece) (to + n) c
+    (laid out init done piece to n e l h k v (lent d out v at to n ind (out_long out init done piece to n e l h k) f))
+    (length-append done piece ∙ ap₂ ◌+◌ l k) (omega arith)
+    ∙ ap₂ ◌++◌
+    (ap (λ (j : ℕ). (done ++ piece) ++ (j ∷ [])) check ∙ append_assoc done piece (check_of piece ∷ []) ∙ sym (framed_snoc i n at d refl) ∙ ap (λ (j : ℕ). framed j n d) (next i))
+    (ap (λ (j : ℕ). drop j init) (let s : to + n + 1 ≡ (i + 1) * (n + 1) = omega (arith, suc-mul i (n + 1), ap (λ (j : ℕ). j * (n + 1)) (next i)) in s))

@@ -5,3 +5,4 @@ pub mod Slave
 pub mod Answers
 pub mod Line
 pub mod Accepted
+pub mod Shapes

@@ -1,51 +1,40 @@
-// Words taken apart, and how the data of an F_code lies in a Slave Frame.
-ghost use Rattle.std.specs.Prelude.{◌≡◌, not, ◌+◌, ◌*◌};
+// How the data of an F_code lies in a Slave Frame.
+ghost use Rattle.std.specs.Prelude.{IsTrue, MatchOption, ◌≡◌};
+ghost use Rattle.rows.specs.Rows.{reserved};
 ghost use Rattle.frames.specs.Words.{f_code_of};
-ghost use Rattle.rows.specs.Rows.{reserved, data_bytes, blocks, block_bytes, frame_bytes};
+ghost use Rattle.frames.specs.Shapes.{IsShape};
 
-// The allowed F_codes, a bit each. By its row the compiler would test the range of a word's F_code once more; by 16 bits
-// it would widen the word's first byte twice, and the answer waits for that.
-const ALLOWED: u32 = 0xF31F;
+// Whether the F_code of a word is reserved.
+#[tactic(auto, using(rows::proofs::Rows::reserved_is))]
+pub(crate) fn reserved(word: u16) -> bool
+    ensures { result ≡ reserved (f_code_of word) }
+{
+    rows::row_of((word / 4096) as u8)[3] == 0
+}
 
+// The bytes of the data and of the whole frame; how many blocks it has, and of how many bytes of data each.
 #[derive(Clone, Copy)]
 pub(crate) struct Shape {
-    pub(crate) allowed: bool,
     pub(crate) data: usize,
     pub(crate) whole: usize,
-    pub(crate) blocks: usize,
+    pub(crate) count: usize,
     pub(crate) size: usize,
 }
 
-pub(crate) fn word_of(high: u8, low: u8) -> u16
-    ensures { result ≡ high * 256 + low }
-{
-    (high as u16) * 256 + low as u16
-}
-
-pub(crate) fn f_code_of(word: u16) -> u8
-    ensures { result ≡ f_code_of word }
-{
-    (word / 4096) as u8
-}
-
-pub(crate) fn allowed(f_code: u8) -> bool
-    ensures { result ≡ not (reserved f_code) }
-{
-    f_code < 16 && (ALLOWED >> f_code) % 2 == 1
-}
-
 // The row is looked up once; what else a frame needs follows from it.
-pub(crate) fn shape_of(f_code: u8) -> Shape
-    ensures { (result.allowed ≡ not (reserved f_code)) × (result.«data» ≡ data_bytes f_code) × (result.whole ≡ frame_bytes f_code) × (result.blocks ≡ blocks f_code) × (result.size ≡ block_bytes f_code) }
+pub(crate) fn shape_of(f_code: u8) -> Option<Shape>
+    ensures { MatchOption result (IsTrue (reserved f_code)) (IsShape f_code) }
 {
-    let row = rows::row_of(f_code);
-    let data = (row[0] / 8) as usize;
-    let whole = row[1] as usize;
-    Shape {
-        allowed: row[3] == 1,
+    let [bits, bytes, _, allowed] = rows::row_of(f_code);
+    if allowed == 0 {
+        return None;
+    }
+    let data = (bits / 8) as usize;
+    let whole = bytes as usize;
+    Some(Shape {
         data,
         whole,
-        blocks: whole - data,
+        count: whole - data,
         size: if data < 8 { data } else { 8 },
-    }
+    })
 }

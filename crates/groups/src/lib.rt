@@ -4,8 +4,7 @@
 ghost use Rattle.std.specs.Prelude.{◌≡◌, ◌-◌, ◌^◌};
 ghost use Rattle.groups.specs.Groups.{is_group, in_group};
 
-// 2^(12-M): C is below it, and the upper half of {M, C} is {M-1, C + 2^(12-M)}. Where M is known to be at most 12 the
-// compiler drops the test.
+// 2^(12-M): C is below it, and the upper half of {M, C} is {M-1, C + 2^(12-M)}.
 pub fn bound(m: u16) -> u16
     ensures { result ≡ 2 ^ (12 - m) }
 {
@@ -16,10 +15,7 @@ pub fn bound(m: u16) -> u16
 pub fn is_group(m: u16, c: u16) -> bool
     ensures { result ≡ is_group m c }
 {
-    if 12 < m {
-        return false;
-    }
-    c < bound(m)
+    m <= 12 && c < bound(m)
 }
 
 // Whether the device with this address is in the group {m, c}.

@@ -3,17 +3,16 @@ ghost use Rattle.std.specs.Prelude.{◌≡◌, ◌≤◌, ℕ, length, get_or};
 ghost use Rattle.timing.specs.Timing.{telegram_bits};
 ghost use Rattle.lists.specs.Weights.{Listable, weigh, WeightsOf};
 
-use timing::{Telegram, telegram_bits};
+use timing::telegram_bits;
 
 // What a word with this F_code weighs.
 fn weight(f_code: u8, gap: u16) -> u32
     requires { Listable f_code × (4 ≤ gap) × (gap ≤ 128) }
     ensures { (result ≡ telegram_bits f_code gap) × (result ≤ 458) }
 {
-    let t = telegram_bits(f_code, gap);
-    match t {
-        Telegram::Bits(n) => n as u32,
-        Telegram::Refused(_) => 0,
+    match telegram_bits(f_code, gap) {
+        Ok(bits) => bits as u32,
+        Err(_) => 0,
     }
 }
 

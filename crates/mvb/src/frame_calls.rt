@@ -1,45 +1,28 @@
 // Frames, as C calls them.
-ghost use Rattle.std.specs.Prelude.{◌≡◌, ◌/◌, ◌%◌, length};
+ghost use Rattle.std.specs.Prelude.{◌≡◌, length};
+ghost use Rattle.refusals.specs.Told.{told, single};
 ghost use Rattle.refusals.specs.Codes.{told_code};
 ghost use Rattle.checks.specs.Check.{check_of};
-ghost use Rattle.frames.specs.Answers.{told_wrote};
 ghost use Rattle.frames.specs.Master.{master_read, master_write, master_write_out};
 ghost use Rattle.frames.specs.Slave.{slave_read, slave_read_out, slave_write, slave_write_out};
 ghost use Rattle.mvb.specs.Values.{OneSmallValue};
 
-use frames::{MasterRead, Wrote};
-
-fn wide(n: u16) -> u32
-    ensures { result ≡ n }
-{
-    n as u32
-}
+use refusals::Refusal;
 
 // The answer of a call that fills a lent output. A frame has few bytes, so the number fits.
-fn code_of(wrote: Wrote) -> u32
-    requires { OneSmallValue (told_wrote wrote) }
-    ensures { told_code result ≡ told_wrote wrote }
+fn code_of(answer: Result<usize, Refusal>) -> u32
+    requires { OneSmallValue (told single answer) }
+    ensures { told_code result ≡ told single answer }
 {
-    match wrote {
-        Wrote::Bytes(n) => n as u32,
-        Wrote::Refused(r) => r.code(),
+    match answer {
+        Ok(bytes) => bytes as u32,
+        Err(refusal) => refusal.code(),
     }
 }
 
-fn word_of(high: u8, low: u8) -> u16
-    ensures { (result / 256 ≡ high) × (result % 256 ≡ low) }
-{
-    (high as u16) * 256 + low as u16
-}
-
-// A block of two bytes is a word: its check sequence is computed here, without a call.
 pub fn mvb_check_of(block: &[u8]) -> u32
     ensures { result ≡ check_of block.now }
 {
-    if block.len() == 2 {
-        let word = word_of(block[0], block[1]);
-        return checks::check_of_word(word) as u32;
-    }
     checks::check_of(block) as u32
 }
 
@@ -47,8 +30,8 @@ pub fn mvb_master_read(frame: &[u8]) -> u32
     ensures { told_code result ≡ master_read frame.now }
 {
     match frames::master_read(frame) {
-        MasterRead::Word(word) => wide(word),
-        MasterRead::Refused(r) => r.code(),
+        Ok(word) => word as u32,
+        Err(refusal) => refusal.code(),
     }
 }
 

@@ -8,17 +8,12 @@ use native.Mathlib.Nat.{suc-mul}
 use native.Mathlib.Omega.{arith}
 use borrow.Author.Tests.{eq-eqb, le-ltb}
 use lib.Dec.{eqb, ltb}
-use denote.Enum.Declared.{tag_of}
 use lib.ListN.{length, take, drop, length-append, length-drop}
 use lib.Seq.{length-take-le}
 use Rattle.refusals.specs.Told.{Told, gives, refusal, refusing}
 use Rattle.refusals.specs.declared.Refusal.{Refusal}
 use Rattle.refusals.specs.Refusals.{number_of}
 use Rattle.refusals.proofs.Apart.{never_both}
-use Rattle.frames.specs.declared.Wrote.{Wrote}
-use Rattle.frames.specs.declared.Wrote.TheVariants as Wrote'
-use Rattle.frames.specs.Answers.{told_wrote}
-use Rattle.frames.specs.contracts.Wrote.{the_type as wrote-type}
 use Rattle.rows.specs.Rows.{data_bits, reserved, data_bytes, blocks, block_bytes, frame_bytes}
 use Rattle.frames.specs.Blocks.{data_in, all_right, right_blocks}
 use Rattle.frames.specs.Slave.{slave_data, slave_frame, slave_read, slave_read_out, slave_write, slave_write_out}
@@ -59,17 +54,6 @@ slave_data_length f w e = data_length (blocks f) (block_bytes f) w (e ∙ sym (w
 -- the number of a refusal that was told
 same_number : (n : ℕ) (R : Refusal) → refusal n ≡ refusing R → n ≡ number_of R
 same_number n R e = cc
-
--- what an answer tells, by its case: where only the case is known, and where the answer is
-pub told_some : (w : Wrote) → tag_of wrote-type w ≡ 0 → {x : Told} → told_wrote w ≡ x → (n : ℕ) × (gives (n ∷ []) ≡ x)
-told_some (Wrote'.Bytes n) h t = (n, t)
-told_some (Wrote'.Refused R) h t = absurd (omega arith)
-
-pub told_bytes : {w : Wrote} {n : ℕ} {x : Told} → w ≡ Wrote'.Bytes n → told_wrote w ≡ x → gives (n ∷ []) ≡ x
-told_bytes e t = sym (ap told_wrote e) ∙ t
-
-pub told_refused : {w : Wrote} {R : Refusal} {x : Told} → w ≡ Wrote'.Refused R → told_wrote w ≡ x → refusing R ≡ x
-told_refused e t = sym (ap told_wrote e) ∙ t
 
 module _ (f : ℕ) (frame : List ℕ) where
   -- an accepted frame, its data in what the reader wrote, and how many bytes they are

@@ -5,7 +5,6 @@ ghost use Rattle.port_table.specs.Inside.{Walked};
 ghost use Rattle.ports.specs.Lent.{replaced};
 ghost use Rattle.ports.specs.Inside.{Arrived, Answered, HasRead, Filled, Showed};
 
-use frames::Wrote;
 use port_table::Seen;
 use refusals::Refusal;
 
@@ -75,11 +74,11 @@ pub(crate) fn arrive(seen: Seen, store: &mut [u8], ages: &mut [u16], word: u16, 
     let offset = place.offset;
     let got = frames::slave_read(f_code, frame, &mut store[offset..]);
     match got {
-        Wrote::Bytes(_) => {
+        Ok(_) => {
             ages[at] = 0;
             0
         }
-        Wrote::Refused(r) => r.code(),
+        Err(r) => r.code(),
     }
 }
 
@@ -113,8 +112,8 @@ pub(crate) fn answer(seen: Seen, store: &[u8], word: u16, out: &mut [u8]) -> u32
     let end = offset + place.size;
     let wrote = frames::slave_write(f_code, &store[offset..end], out);
     match wrote {
-        Wrote::Bytes(n) => value(n),
-        Wrote::Refused(r) => r.code(),
+        Ok(n) => value(n),
+        Err(r) => r.code(),
     }
 }
 

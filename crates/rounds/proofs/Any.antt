@@ -6,14 +6,14 @@ use Prim.Native.Nat.{ℕ, ◌≤◌}
 use native.Mathlib.Omega.{arith}
 use lib.Dec.{lit≤}
 use borrow.Author.Tests.{le-ltb}
+use Rattle.std.specs.Prelude.{Ok, Err}
 use Rattle.refusals.specs.declared.Refusal.{Refusal}
 use Rattle.groups.specs.Groups.{request_word, after, follows}
 use Rattle.groups.specs.Sets.{Rising}
 use Rattle.groups.proofs.Follow.{Group}
 use Rattle.rounds.specs.declared.Phase.TheVariants.{Ended}
-use Rattle.rounds.specs.declared.Step.{Step}
-use Rattle.rounds.specs.declared.Step.TheVariants.{End, Refused}
-use Rattle.rounds.specs.Rounds.{none, round, judge, start_of}
+use Rattle.rounds.specs.declared.Step.TheVariants.{End}
+use Rattle.rounds.specs.Rounds.{none, round, judge, Handed, start_of}
 use Rattle.rounds.specs.Lines.{Line, History, tick_by, run_by, on_line, begun, run, Right, Ending}
 use Rattle.rounds.specs.Demand.{read_order}
 use Rattle.rounds.specs.Walks.{Seen, Hearing, Walk, Reaches, asking}
@@ -54,7 +54,7 @@ module _ (line : Line) (p : ℕ) (h : p ≤ 4095) where
 
   -- the round at its end
   abbrev pub final : History
-  final = record { sent = all.sent; last = End (round Ended 12 0 all.counts) all.counts }
+  final = record { sent = all.sent; last = Ok (End (round Ended 12 0 all.counts) all.counts) }
 
   pub whole_round : (n : ℕ) × (run line p n ≡ final)
   unfolding after
@@ -85,7 +85,7 @@ module _ (line : Line) (p : ℕ) (h : p ≤ 4095) where
       })
 
   -- no round from a start is refused
-  pub accepted : (n : ℕ) (j : Refusal) → (run line p n).last ≡ Refused j → ⊥
+  pub accepted : (n : ℕ) (j : Refusal) → (run line p n).last ≡ Err j → ⊥
   accepted n j f =
       let w = whole_round in
       let x : run_by (on_line line) n (run line p w.0) ≡ final = ap (run_by (on_line line) n) w.1 ∙ kept (on_line line) n final refl in
@@ -94,8 +94,8 @@ module _ (line : Line) (p : ℕ) (h : p ≤ 4095) where
       let o : ◌≡◌ {A = ℕ} 0 1 = cc (ap (λ (g : History). g.last) q, f) in
       omega arith
     where
-      stays : (g : History) → g.last ≡ Refused j → tick_by (on_line line) g ≡ g
-      stays g e = subst (λ (s : Step). tick_by (on_line line) (record { sent = g.sent; last = s }) ≡ record { sent = g.sent; last = s }) (sym e) refl
+      stays : (g : History) → g.last ≡ Err j → tick_by (on_line line) g ≡ g
+      stays g e = subst (λ (s : Handed). tick_by (on_line line) (record { sent = g.sent; last = s }) ≡ record { sent = g.sent; last = s }) (sym e) refl
 
   -- at every step each of the three counts is the number of such events in the history since the start
   pub every_step : (n : ℕ) → Right line (run line p n).sent (run line p n).last

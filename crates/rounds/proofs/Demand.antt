@@ -6,10 +6,10 @@ use mathlib.Core.List.{[], ◌∷◌}
 use Prim.Native.Nat.{ℕ, ◌+◌, ◌*◌, ◌/◌, ◌≤◌}
 use lib.Dec.{eqb}
 use lib.ListN.{length}
+use Rattle.std.specs.Prelude.{Err}
 use Rattle.refusals.specs.declared.Refusal.{Refusal}
 use Rattle.groups.specs.Sets.{devices, how_many, Rising}
 use Rattle.groups.specs.Search.{Found, search_of}
-use Rattle.rounds.specs.declared.Step.TheVariants.{Refused}
 use Rattle.rounds.specs.Lines.{Line, History, run, Right, Ending}
 use Rattle.rounds.specs.Demand.{Truthful, read_order, AllRead}
 use Rattle.rounds.specs.Bytes.{ByteLine, MadeFrom, TruthfulBytes}
@@ -26,7 +26,7 @@ ends p h line n l = any.ends line p h n l
 pub counts_right : (p : ℕ) → p ≤ 4095 → (line : Line) (n : ℕ) → Right line (run line p n).sent (run line p n).last
 counts_right p h line n = any.every_step line p h n
 
-pub accepted : (p : ℕ) → p ≤ 4095 → (line : Line) (n : ℕ) (j : Refusal) → (run line p n).last ≡ Refused j → ⊥
+pub accepted : (p : ℕ) → p ≤ 4095 → (line : Line) (n : ℕ) (j : Refusal) → (run line p n).last ≡ Err j → ⊥
 accepted p h line n j = any.accepted line p h n j
 
 -- on any line at all the reads rise in the order of their bits taken lowest first, so no device is read twice

@@ -8,6 +8,7 @@ use Prim.Native.Nat.{ℕ, zero, suc, ◌+◌, ◌-◌, ◌^◌, ◌≤◌, ◌<�
 use native.Mathlib.Omega.{arith}
 use lib.Dec.{eqb, lit≤}
 use borrow.Author.Tests.{le-ltb, eq-eqb, eqb-true}
+use Rattle.std.specs.Prelude.{Ok, Err}
 use Rattle.refusals.specs.declared.Refusal.TheVariants.{ImpossibleRound}
 use Rattle.frames.specs.declared.LineAnswer.{LineAnswer}
 use Rattle.frames.specs.declared.LineAnswer.TheVariants.{Silence, Reply, Collision}
@@ -21,9 +22,8 @@ use Rattle.rounds.specs.declared.Phase.{Phase}
 use Rattle.rounds.specs.declared.Phase.TheVariants.{Asked, Read, Ended}
 use Rattle.rounds.specs.declared.Counts.{Counts}
 use Rattle.rounds.specs.declared.Round.{Round}
-use Rattle.rounds.specs.declared.Step.{Step}
-use Rattle.rounds.specs.declared.Step.TheVariants.{Next, End, Refused}
-use Rattle.rounds.specs.Rounds.{counts_of, round, one_request, one_read, one_unresolved, Verdict, nobody, named, unclear, is_good, judge, stand, heard, impossible, ended, step_by, step_of, start_of}
+use Rattle.rounds.specs.declared.Step.TheVariants.{Next, End}
+use Rattle.rounds.specs.Rounds.{round, one_request, one_read, one_unresolved, Verdict, nobody, named, unclear, is_good, judge, stand, heard, impossible, ended, Handed, step_by, step_of, start_of}
 use Rattle.rounds.specs.Demand.{read_order}
 use Rattle.rounds.specs.Lines.{Line, History, tick_by, run_by, on_line, begun, run, is_request, is_read, counted, is_unclear, is_unresolved, unresolved_in, Right}
 
@@ -93,16 +93,16 @@ module _ (line : Line) (p : ℕ) (h : p ≤ 4095) where
   Waits sent m c k w Read = Group m c × (f_code_of w ≡ 12) × (in_group m c (address w) ≡ true) × Numbers line sent 1 (low m c) k
   Waits sent m c k w Ended = ⊥
 
-  abbrev pub Known : List ℕ → Step → Type 0
-  Known sent (Next r w) = Waits sent r.m r.c (counts_of r) w r.phase
-  Known sent (End r k) = (r.phase ≡ Ended) × (k ≡ counts_of r) × Numbers line sent 0 4096 k
-  Known sent (Refused n) = Unit {0}
+  abbrev pub Known : List ℕ → Handed → Type 0
+  Known sent (Ok (Next r w)) = Waits sent r.m r.c (r.counts) w r.phase
+  Known sent (Ok (End r k)) = (r.phase ≡ Ended) × (k ≡ r.counts) × Numbers line sent 0 4096 k
+  Known sent (Err n) = Unit {0}
 
   -- the group is done
-  known_on : (sent : List ℕ) (m c : ℕ) (k : Counts) → Group m c → Numbers line sent 0 (low m c + 2 ^ m) k → Known sent (stand (follows m c) k)
+  known_on : (sent : List ℕ) (m c : ℕ) (k : Counts) → Group m c → Numbers line sent 0 (low m c + 2 ^ m) k → Known sent (Ok (stand (follows m c) k))
   known_on sent m c k g n = go (follows m c) refl
     where
-      go : (place : Place) → follows m c ≡ place → Known sent (stand place k)
+      go : (place : Place) → follows m c ≡ place → Known sent (Ok (stand place k))
       go over e = (refl, refl, further line sent 0 (low m c + 2 ^ m) 4096 k (range_most m c g.0) n)
       go (at m₁ c₁) e =
           let x = next_group m c m₁ c₁ g e in
@@ -136,7 +136,7 @@ module _ (line : Line) (p : ℕ) (h : p ≤ 4095) where
         }
 
     -- silence, or a device that is left unresolved
-    passed : (j : Counts) → Numbers line (w ∷ sent) 0 (low m c) j → Known (w ∷ sent) (stand (follows m c) j)
+    passed : (j : Counts) → Numbers line (w ∷ sent) 0 (low m c) j → Known (w ∷ sent) (Ok (stand (follows m c) j))
     passed j y = known_on (w ∷ sent) m c j g (further line (w ∷ sent) 0 (low m c) (low m c + 2 ^ m) j (omega arith) y)
 
     found : (x : ℕ) → judge m c (line (w ∷ sent)) ≡ named x → Numbers line (w ∷ sent) 0 (low m c) (one_request k) → Waits (w ∷ sent) m c (one_read (one_request k)) x Read
@@ -145,7 +145,7 @@ module _ (line : Line) (p : ℕ) (h : p ≤ 4095) where
         let y₂ = y.reads in
         (g, o.0, o.1, record { requests = y.requests; reads = omega arith; unresolved = y.unresolved; order = y.order })
 
-  known_heard : (sent : List ℕ) (m c w : ℕ) (k : Counts) → Group m c → w ≡ request_word p m c → Numbers line sent 0 (low m c) k → (v : Verdict) → judge m c (line (w ∷ sent)) ≡ v → Known (w ∷ sent) (heard v m c (one_request k))
+  known_heard : (sent : List ℕ) (m c w : ℕ) (k : Counts) → Group m c → w ≡ request_word p m c → Numbers line sent 0 (low m c) k → (v : Verdict) → judge m c (line (w ∷ sent)) ≡ v → Known (w ∷ sent) (Ok (heard v m c (one_request k)))
   known_heard sent zero c w k g e n nobody j = passed sent zero c w k g e n (one_request k) (counted_one sent zero c w k g e n (ap is_unclear j))
   known_heard sent (suc m) c w k g e n nobody j = passed sent (suc m) c w k g e n (one_request k) (counted_one sent (suc m) c w k g e n refl)
   known_heard sent zero c w k g e n (named x) j = found sent zero c w k g e n x j (counted_one sent zero c w k g e n (ap is_unclear j))
@@ -165,7 +165,7 @@ module _ (line : Line) (p : ℕ) (h : p ≤ 4095) where
       let r₁ = r.1 in
       rw e (joined 0 (low m c) (low m c + 2 ^ m) (read_order sent) (a ∷ []) o (r.0, omega arith))
 
-  known_refused : (sent : List ℕ) (b : Bool) (s : Step) → Known sent s → Known sent (cond b (Refused ImpossibleRound) s)
+  known_refused : (sent : List ℕ) (b : Bool) (s : Handed) → Known sent s → Known sent (cond b (Err ImpossibleRound) s)
   known_refused sent true s k = tt
   known_refused sent false s k = k
 
@@ -183,10 +183,10 @@ module _ (line : Line) (p : ℕ) (h : p ≤ 4095) where
   known_tick : (x : History) → Known x.sent x.last → Known (tick_by (on_line line) x).sent (tick_by (on_line line) x).last
   known_tick x k = go x.sent x.last k
     where
-      go : (sent : List ℕ) (s : Step) → Known sent s → Known (tick_by (on_line line) (record { sent = sent; last = s })).sent (tick_by (on_line line) (record { sent = sent; last = s })).last
-      go sent (Next r w) k = known_step sent r.phase r.m r.c w (counts_of r) k
-      go sent (End r j) k = k
-      go sent (Refused n) k = tt
+      go : (sent : List ℕ) (s : Handed) → Known sent s → Known (tick_by (on_line line) (record { sent = sent; last = s })).sent (tick_by (on_line line) (record { sent = sent; last = s })).last
+      go sent (Ok (Next r w)) k = known_step sent r.phase r.m r.c w (r.counts) k
+      go sent (Ok (End r j)) k = k
+      go sent (Err n) k = tt
 
   known_run : (n : ℕ) (x : History) → Known x.sent x.last → Known (run_by (on_line line) n x).sent (run_by (on_line line) n x).last
   known_run zero x k = k
@@ -200,7 +200,7 @@ module _ (line : Line) (p : ℕ) (h : p ≤ 4095) where
   known n = known_run n (begun p) known_start
 
   -- ---- what the reader of a history is told
-  right_waits : (sent : List ℕ) (ph : Phase) (m c w : ℕ) (k : Counts) → Waits sent m c k w ph → Right line sent (Next (round ph m c k) w)
+  right_waits : (sent : List ℕ) (ph : Phase) (m c w : ℕ) (k : Counts) → Waits sent m c k w ph → Right line sent (Ok (Next (round ph m c k) w))
   right_waits sent Asked m c w k x =
       let a : Asks m c w = subst (λ (y : ℕ). Asks m c y) (sym x.1) (asks p m c h x.0) in
       let n = x.2 in (
@@ -225,10 +225,10 @@ module _ (line : Line) (p : ℕ) (h : p ≤ 4095) where
       )
   right_waits sent Ended m c w k x = absurd x
 
-  pub right : (sent : List ℕ) (s : Step) → Known sent s → ((n : _) → s ≡ Refused n → ⊥) → Right line sent s
-  right sent (Next r w) k f = right_waits sent r.phase r.m r.c w (counts_of r) k
-  right sent (End r j) k f =
-      let n : Numbers line sent 0 4096 (counts_of r) = subst (λ (y : Counts). Numbers line sent 0 4096 y) k.1 k.2 in
+  pub right : (sent : List ℕ) (s : Handed) → Known sent s → ((n : _) → s ≡ Err n → ⊥) → Right line sent s
+  right sent (Ok (Next r w)) k f = right_waits sent r.phase r.m r.c w (r.counts) k
+  right sent (Ok (End r j)) k f =
+      let n : Numbers line sent 0 4096 (r.counts) = subst (λ (y : Counts). Numbers line sent 0 4096 y) k.1 k.2 in
       let n₁ = n.requests in
       let n₂ = n.reads in (
         ap ended k.0,
@@ -240,27 +240,27 @@ module _ (line : Line) (p : ℕ) (h : p ≤ 4095) where
           handed_out = rw k.0 (omega arith);
         },
       )
-  right sent (Refused n) k f = absurd (f n refl)
+  right sent (Err n) k f = absurd (f n refl)
 
   -- ---- the order of the reads
-  rises_in : (sent : List ℕ) (s : Step) → Known sent s → ((n : _) → s ≡ Refused n → ⊥) → Rising 0 (read_order sent)
-  rises_in sent (Next r w) k f = go r.phase k
+  rises_in : (sent : List ℕ) (s : Handed) → Known sent s → ((n : _) → s ≡ Err n → ⊥) → Rising 0 (read_order sent)
+  rises_in sent (Ok (Next r w)) k f = go r.phase k
     where
-      go : (ph : Phase) → Waits sent r.m r.c (counts_of r) w ph → Rising 0 (read_order sent)
+      go : (ph : Phase) → Waits sent r.m r.c (r.counts) w ph → Rising 0 (read_order sent)
       go Asked x = rising 0 (low r.m r.c) (read_order sent) x.2.order
       go Read x = rising 0 (low r.m r.c) (read_order sent) x.3.order
       go Ended x = absurd x
-  rises_in sent (End r j) k f = rising 0 4096 (read_order sent) k.2.order
-  rises_in sent (Refused n) k f = absurd (f n refl)
+  rises_in sent (Ok (End r j)) k f = rising 0 4096 (read_order sent) k.2.order
+  rises_in sent (Err n) k f = absurd (f n refl)
 
-  pub rises : (n : ℕ) → ((j : _) → (run line p n).last ≡ Refused j → ⊥) → Rising 0 (read_order (run line p n).sent)
+  pub rises : (n : ℕ) → ((j : _) → (run line p n).last ≡ Err j → ⊥) → Rising 0 (read_order (run line p n).sent)
   rises n f = rises_in (run line p n).sent (run line p n).last (known n) f
 
   -- where the request for {M, C} is handed out, the devices read so far lie before its range
-  pub before_range : (n m c : ℕ) (r : Round) → Group m c → (run line p n).last ≡ Next r (request_word p m c) → Between 0 (low m c) (read_order (run line p n).sent)
-  before_range n m c r g e = go r.phase (subst (λ (s : Step). Known (run line p n).sent s) e (known n))
+  pub before_range : (n m c : ℕ) (r : Round) → Group m c → (run line p n).last ≡ Ok (Next r (request_word p m c)) → Between 0 (low m c) (read_order (run line p n).sent)
+  before_range n m c r g e = go r.phase (subst (λ (s : Handed). Known (run line p n).sent s) e (known n))
     where
-      go : (ph : Phase) → Waits (run line p n).sent r.m r.c (counts_of r) (request_word p m c) ph → Between 0 (low m c) (read_order (run line p n).sent)
+      go : (ph : Phase) → Waits (run line p n).sent r.m r.c (r.counts) (request_word p m c) ph → Between 0 (low m c) (read_order (run line p n).sent)
       go Asked x =
           let q : at m c ≡ at r.m r.c = sym (named_by p m c h g) ∙ ap group_of x.1 ∙ named_by p r.m r.c h x.0 in
           let q₁ : r.m ≡ m = cc in

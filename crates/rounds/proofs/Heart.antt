@@ -9,6 +9,7 @@ use native.Mathlib.Omega.{arith}
 use lib.Dec.{ltb}
 use lib.ListN.{length}
 use borrow.Author.Tests.{le-ltb}
+use Rattle.std.specs.Prelude.{Ok, Err}
 use Rattle.refusals.specs.declared.Refusal.TheVariants.{ImpossibleRound}
 use Rattle.groups.specs.Groups.{group_word, Place, over, at, follows}
 use Rattle.groups.proofs.Follow.{Group, is_group_lem, in_lower, in_upper, lower, upper}
@@ -16,21 +17,19 @@ use Rattle.rounds.specs.declared.Phase.{Phase}
 use Rattle.rounds.specs.declared.Phase.TheVariants.{Asked, Read}
 use Rattle.rounds.specs.declared.Counts.{Counts}
 use Rattle.rounds.specs.declared.Round.{Round}
-use Rattle.rounds.specs.declared.Step.{Step}
-use Rattle.rounds.specs.declared.Step.TheVariants.{Refused}
-use Rattle.rounds.specs.Rounds.{round, one_request, one_read, Verdict, nobody, named, unclear, stand, heard, is_at, broken, step_by}
+use Rattle.rounds.specs.Rounds.{round, one_request, one_read, Verdict, nobody, named, unclear, stand, heard, is_at, broken, Handed, step_by}
 use Rattle.rounds.specs.Lines.{History, tick_by, run_by}
 use Rattle.rounds.specs.Walks.{Seen, asked, read, Hearing, Walk, silence, reply, again, halves, single, hearing, Reaches, here, on, asking, done, Room}
 
 -- ---- steps, one after the other
-pub beyond : {step : List ℕ → Round → Step} {h k l : History} → Reaches step h k → Reaches step k l → Reaches step h l
+pub beyond : {step : List ℕ → Round → Handed} {h k l : History} → Reaches step h k → Reaches step k l → Reaches step h l
 beyond here b = b
 beyond (on a) b = on (beyond a b)
 
-pub one_step : {step : List ℕ → Round → Step} {h k l : History} → tick_by step h ≡ k → Reaches step k l → Reaches step h l
+pub one_step : {step : List ℕ → Round → Handed} {h k l : History} → tick_by step h ≡ k → Reaches step k l → Reaches step h l
 one_step {step} {h} {k} {l} e r = on (subst (λ (x : History). Reaches step x l) (sym e) r)
 
-pub reached : {step : List ℕ → Round → Step} {h k : History} → Reaches step h k → (n : ℕ) × (run_by step n h ≡ k)
+pub reached : {step : List ℕ → Round → Handed} {h k : History} → Reaches step h k → (n : ℕ) × (run_by step n h ≡ k)
 reached here = (0, refl)
 reached (on a) = let r = reached a in (suc r.0, r.1)
 
@@ -49,20 +48,20 @@ module _ (cap : ℕ) (lead : ℕ → ℕ → Place) where
 
   -- the answer to a request
   pub step_asked : (v : Verdict) (m c : ℕ) (k : Counts) → Group m c → Fits k → k.requests ≤ cap →
-      step_by cap lead v (round Asked m c k) ≡ heard v m c (one_request k)
+      step_by cap lead v (round Asked m c k) ≡ Ok (heard v m c (one_request k))
   unfolding step_by
   step_asked v m c k t f l = simp (is_group_lem m c t, le-ltb _ _ f, le-ltb _ _ l)
 
   -- the answer to a read, whatever it is
   pub step_read : (v : Verdict) (m c : ℕ) (k : Counts) → Group m c → Fits k → Room cap (lead m c) k.requests →
-      step_by cap lead v (round Read m c k) ≡ stand (lead m c) k
+      step_by cap lead v (round Read m c k) ≡ Ok (stand (lead m c) k)
   unfolding step_by
   step_read v m c k t f l = simp (is_group_lem m c t, le-ltb _ _ f) (go (lead m c) l)
     where
-      go : (p : Place) → Room cap p k.requests → cond (ltb cap k.requests && is_at p) (Refused ImpossibleRound) (stand p k) ≡ stand p k
+      go : (p : Place) → Room cap p k.requests → cond (ltb cap k.requests && is_at p) (Err ImpossibleRound) (Ok (stand p k)) ≡ Ok (stand p k)
       go over h = same (ltb cap k.requests)
         where
-          same : (b : Bool) → cond (b && false) (Refused ImpossibleRound) (stand over k) ≡ stand over k
+          same : (b : Bool) → cond (b && false) (Err ImpossibleRound) (Ok (stand over k)) ≡ Ok (stand over k)
           same true = refl
           same false = refl
       go (at m₁ c₁) h = simp (le-ltb _ _ h)
@@ -85,7 +84,7 @@ module _ (cap : ℕ) (lead : ℕ → ℕ → Place) where
     sends (halves e a b) h = sends b (sends a (omega arith))
     sends (single e) h = omega arith
 
-    abbrev Step₀ : List ℕ → Round → Step
+    abbrev Step₀ : List ℕ → Round → Handed
     Step₀ = hearing cap lead hear
 
     abbrev Asks : ℕ → ℕ → ℕ → Seen → History → Type 0
@@ -93,24 +92,24 @@ module _ (cap : ℕ) (lead : ℕ → ℕ → Place) where
 
     -- the answer to the request for {M, C} was taken
     abbrev pub taken : Verdict → ℕ → ℕ → ℕ → Seen → History
-    taken v m c w s = record { sent = w ∷ s.sent; last = heard v m c (one_request s.counts) }
+    taken v m c w s = record { sent = w ∷ s.sent; last = Ok (heard v m c (one_request s.counts)) }
 
     pub first : (m c w : ℕ) (s : Seen) (v : Verdict) → hear (w ∷ s.sent) m c ≡ v → Group m c → Fits s.counts → s.counts.requests ≤ cap →
         tick_by Step₀ (asking m c w s) ≡ taken v m c w s
     first m c w s v e t f l =
-        ap (λ (x : Step). let h : History = record { sent = w ∷ s.sent; last = x } in h)
-        (step_asked (hear (w ∷ s.sent) m c) m c s.counts t f l ∙ ap (λ (x : Verdict). heard x m c (one_request s.counts)) e)
+        ap (λ (x : Handed). let h : History = record { sent = w ∷ s.sent; last = x } in h)
+        (step_asked (hear (w ∷ s.sent) m c) m c s.counts t f l ∙ ap (λ (x : Verdict). let h : Handed = Ok (heard x m c (one_request s.counts)) in h) e)
 
     -- then the read, and where it leads
     second : (m c w x : ℕ) (s : Seen) → Group m c → Fits s.counts → Room cap (lead m c) (s.counts.requests + 1) →
-        tick_by Step₀ (taken (named x) m c w s) ≡ record { sent = x ∷ w ∷ s.sent; last = stand (lead m c) (one_read (one_request s.counts)) }
+        tick_by Step₀ (taken (named x) m c w s) ≡ record { sent = x ∷ w ∷ s.sent; last = Ok (stand (lead m c) (one_read (one_request s.counts))) }
     second m c w x s t f l =
-        ap (λ (y : Step). let h : History = record { sent = x ∷ w ∷ s.sent; last = y } in h)
+        ap (λ (y : Handed). let h : History = record { sent = x ∷ w ∷ s.sent; last = y } in h)
         (step_read (hear (x ∷ w ∷ s.sent) m c) m c (one_read (one_request s.counts)) t (omega arith) l)
 
-    standing : (m c w : ℕ) (s t : Seen) {p q : Place} → p ≡ q → Asks m c w s (record { sent = t.sent; last = stand p t.counts }) →
-        Asks m c w s (record { sent = t.sent; last = stand q t.counts })
-    standing m c w s t e r = subst (λ (p : Place). Asks m c w s (record { sent = t.sent; last = stand p t.counts })) e r
+    standing : (m c w : ℕ) (s t : Seen) {p q : Place} → p ≡ q → Asks m c w s (record { sent = t.sent; last = Ok (stand p t.counts) }) →
+        Asks m c w s (record { sent = t.sent; last = Ok (stand q t.counts) })
+    standing m c w s t e r = subst (λ (p : Place). Asks m c w s (record { sent = t.sent; last = Ok (stand p t.counts) })) e r
 
     pub heart : {m c w : ℕ} {s t : Seen} → Walk hear lead m c w s t → Group m c → Fits s.counts → Room cap (follows m c) t.counts.requests →
         Reaches Step₀ (asking m c w s) (done m c t)

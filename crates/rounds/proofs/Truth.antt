@@ -10,6 +10,7 @@ use native.Mathlib.Nat.{zero-add}
 use lib.Dec.{lit≤}
 use lib.ListN.{length, length-append}
 use borrow.Author.Tests.{eq-eqb}
+use Rattle.std.specs.Prelude.{Ok}
 use Rattle.frames.specs.declared.LineAnswer.{LineAnswer}
 use Rattle.frames.specs.declared.LineAnswer.TheVariants.{Reply}
 use Rattle.frames.specs.Words.{f_code_of, address, word_of}
@@ -24,7 +25,7 @@ use Rattle.groups.proofs.Counting.{set_count}
 use Rattle.groups.proofs.Costs.{finds, cost, devices_few, once, collided, halved}
 use Rattle.rounds.specs.declared.Phase.TheVariants.{Asked, Ended}
 use Rattle.rounds.specs.declared.Step.TheVariants.{Next}
-use Rattle.rounds.specs.Rounds.{Verdict, nobody, named, unclear, judge, stand, round}
+use Rattle.rounds.specs.Rounds.{Verdict, nobody, named, unclear, judge, stand, round, Handed}
 use Rattle.rounds.specs.Lines.{Line, History, on_line, begun, is_read}
 use Rattle.rounds.specs.Walks.{Seen, asked, read, Walk, silence, reply, again, halves, single, Reaches, here, asking, Room}
 use Rattle.rounds.specs.Demand.{Truth, none, one, several, Truthful, read_order, AllRead}
@@ -130,7 +131,7 @@ module _ (S : ℕ → Bool) (p : ℕ) (h : p ≤ 4095) (line : Line) (truth : Tr
   judged : (m c w : ℕ) (s : Seen) → Group m c → w ≡ request_word p m c → There (asking m c w s) → judge m c (line (w ∷ s.sent)) ≡ verdict_of (devices S m c)
   judged m c w s t e r =
       let n = reached r in
-      let l = ap (λ (x : History). x.last) n.1 ∙ ap (Next (round Asked m c s.counts)) e in
+      let l = ap (λ (x : History). x.last) n.1 ∙ ap (λ (x : ℕ). let n : Handed = Ok (Next (round Asked m c s.counts) x) in n) e in
       let x = truth n.0 m c (round Asked m c s.counts) (is_group_lem m c t) l in
       rw e (truth_heard S m c t (line (request_word p m c ∷ s.sent)) (subst (λ (y : History). Truth S m c (line (request_word p m c ∷ y.sent))) n.1 x))
 
@@ -169,7 +170,7 @@ module _ (S : ℕ → Bool) (p : ℕ) (h : p ≤ 4095) (line : Line) (truth : Tr
       let r₁ : There (asking m c (group_word m c) (asked w s)) =
       beyond r (one_step (first 8190 follows (hearing_on line) (suc m) c w s unclear e g f (omega arith)) here) in
       let r₂ : There (asking m d (group_word m d) t) =
-      beyond r₁ (subst (λ (o : Place). Reaches (on_line line) (asking m c (group_word m c) (asked w s)) (record { sent = t.sent; last = stand o t.counts })) (lower m c g)
+      beyond r₁ (subst (λ (o : Place). Reaches (on_line line) (asking m c (group_word m c) (asked w s)) (record { sent = t.sent; last = Ok (stand o t.counts) })) (lower m c g)
       (heart 8190 follows (hearing_on line) a gl (omega arith) room₁)) in
       let g₀ = g.0 in
       let k₁ = told a gl (sym (request_part p m c (omega arith))) r₁ (omega arith) room₁ in

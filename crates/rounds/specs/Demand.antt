@@ -1,6 +1,6 @@
 -- Demand 3: a set of devices, the line that tells the truth of it, and what a round on that line has done at its end.
 -- Assumes nothing.
-use Rattle.std.specs.Prelude.{ℕ, ◌+◌, ◌*◌, ◌/◌, ◌≤◌, ◌<◌, ◌≡◌, Bool, true, cond, length}
+use Rattle.std.specs.Prelude.{ℕ, ◌+◌, ◌*◌, ◌/◌, ◌≤◌, ◌<◌, ◌≡◌, Bool, true, cond, length, Ok}
 use mathlib.Core.List.{List, [], ◌∷◌, ◌++◌, Memᴰ}
 use Rattle.frames.specs.declared.LineAnswer.{LineAnswer}
 use Rattle.frames.specs.declared.LineAnswer.TheVariants.{Silence, Reply, Collision}
@@ -22,7 +22,7 @@ pub data Truth (S : ℕ → Bool) (m c : ℕ) : LineAnswer → Type 0 where
 -- the line tells the truth to each request that this round hands out; "what it answers to a read is free"
 abbrev pub Truthful : (ℕ → Bool) → ℕ → Line → Type 0
 Truthful S params line =
-    (n m c : ℕ) (r : Round) → is_group m c ≡ true → (run line params n).last ≡ Next r (request_word params m c) →
+    (n m c : ℕ) (r : Round) → is_group m c ≡ true → (run line params n).last ≡ Ok (Next r (request_word params m c)) →
     Truth S m c (line (request_word params m c ∷ (run line params n).sent))
 
 -- the devices that were read, first to last, of the words sent, the newest first
@@ -35,7 +35,7 @@ read_order (word ∷ words) = read_order words ++ cond (is_read word) (address w
 pub record AllRead (S : ℕ → Bool) (h : History) : Type 0 where
   pub round : Round
   pub counts : Counts
-  pub last : h.last ≡ End round counts
+  pub last : h.last ≡ Ok (End round counts)
   pub each : (a : ℕ) → a < 4096 → S a ≡ true → Memᴰ a (read_order h.sent)
   pub only : (a : ℕ) → Memᴰ a (read_order h.sent) → (a < 4096) × (S a ≡ true)
   pub rising : Rising 0 (read_order h.sent)

@@ -1,15 +1,14 @@
 -- A round on a line, step by step, and what happened in it since its start.
 -- Assumes nothing.
-use Rattle.std.specs.Prelude.{ℕ, zero, suc, ◌+◌, ◌≤◌, ◌≡◌, Bool, true, false, cond, ◌&&◌, ◌||◌, List, [], ◌∷◌, eqb}
+use Rattle.std.specs.Prelude.{ℕ, zero, suc, ◌+◌, ◌≤◌, ◌≡◌, Bool, true, false, cond, ◌&&◌, ◌||◌, List, [], ◌∷◌, eqb, Ok, Err}
 use Rattle.frames.specs.declared.LineAnswer.{LineAnswer}
 use Rattle.frames.specs.Words.{f_code_of, address}
 use Rattle.rounds.specs.declared.Phase.{Phase}
 use Rattle.rounds.specs.declared.Phase.TheVariants.{Asked, Read, Ended}
 use Rattle.rounds.specs.declared.Counts.{Counts}
 use Rattle.rounds.specs.declared.Round.{Round}
-use Rattle.rounds.specs.declared.Step.{Step}
-use Rattle.rounds.specs.declared.Step.TheVariants.{Next, End, Refused}
-use Rattle.rounds.specs.Rounds.{counts_of, Verdict, nobody, named, unclear, judge, ended, step_of, start_of}
+use Rattle.rounds.specs.declared.Step.TheVariants.{Next, End}
+use Rattle.rounds.specs.Rounds.{Verdict, nobody, named, unclear, judge, ended, Handed, step_of, start_of}
 
 -- ---- histories
 -- any line at all: what it answers to the newest word may depend on all the words sent since the start, the newest first
@@ -19,25 +18,25 @@ Line = List ℕ → LineAnswer
 -- the words sent whose answers were taken, the newest first; and what the last call handed back
 pub record History : Type 0 where
   pub sent : List ℕ
-  pub last : Step
+  pub last : Handed
 
 -- the word that was handed out is sent, and the round takes its answer; after the end nothing is sent
-abbrev pub then : (List ℕ → Round → Step) → List ℕ → Step → History
-then step sent (Next r word) = record { sent = word ∷ sent; last = step (word ∷ sent) r }
-then step sent (End r k) = record { sent = sent; last = End r k }
-then step sent (Refused n) = record { sent = sent; last = Refused n }
+abbrev pub then : (List ℕ → Round → Handed) → List ℕ → Handed → History
+then step sent (Ok (Next r word)) = record { sent = word ∷ sent; last = step (word ∷ sent) r }
+then step sent (Ok (End r k)) = record { sent = sent; last = Ok (End r k) }
+then step sent (Err n) = record { sent = sent; last = Err n }
 
 -- one step
-abbrev pub tick_by : (List ℕ → Round → Step) → History → History
+abbrev pub tick_by : (List ℕ → Round → Handed) → History → History
 tick_by step h = then step h.sent h.last
 
 -- so many steps
-abbrev pub run_by : (List ℕ → Round → Step) → ℕ → History → History
+abbrev pub run_by : (List ℕ → Round → Handed) → ℕ → History → History
 run_by step zero h = h
 run_by step (suc n) h = run_by step n (tick_by step h)
 
 -- the round takes the line's answer
-abbrev pub on_line : Line → List ℕ → Round → Step
+abbrev pub on_line : Line → List ℕ → Round → Handed
 on_line line words r = step_of r (line words)
 
 -- "The start hands back the round and its first word"
@@ -87,23 +86,23 @@ waiting Ended = 0
 -- "Each count is the number of such events in the round since its start. (A request counts when its answer is taken, a read along with the
 -- good reply that brings it.)" taken: the words whose answers were taken; handed: those, and the one handed out last
 pub record Counted (line : Line) (taken handed : List ℕ) (r : Round) : Type 0 where
-  pub requests : r.requests ≡ counted is_request taken
-  pub reads : r.reads ≡ counted is_read handed
-  pub unresolved : r.unresolved ≡ unresolved_in line taken
-  pub handed_out : counted is_request handed ≡ r.requests + waiting r.phase
+  pub requests : r.counts.requests ≡ counted is_request taken
+  pub reads : r.counts.reads ≡ counted is_read handed
+  pub unresolved : r.counts.unresolved ≡ unresolved_in line taken
+  pub handed_out : counted is_request handed ≡ r.counts.requests + waiting r.phase
 
 -- what the last call of a round handed back: a round with a word, or an ended one with its counts, and each count is right; "No round from a
 -- start is refused"
-abbrev pub Right : Line → List ℕ → Step → Type 0
-Right line sent (Next r word) = (ended r.phase ≡ false) × Counted line sent (word ∷ sent) r
-Right line sent (End r k) = (ended r.phase ≡ true) × (k ≡ counts_of r) × Counted line sent sent r
-Right line sent (Refused n) = ⊥
+abbrev pub Right : Line → List ℕ → Handed → Type 0
+Right line sent (Ok (Next r word)) = (ended r.phase ≡ false) × Counted line sent (word ∷ sent) r
+Right line sent (Ok (End r k)) = (ended r.phase ≡ true) × (k ≡ r.counts) × Counted line sent sent r
+Right line sent (Err n) = ⊥
 
 -- the round has ended, "after at most 8,191 requests" and 4,096 reads, and the request words handed out are as many as it reports
 pub record Ending (h : History) : Type 0 where
   pub round : Round
   pub counts : Counts
-  pub last : h.last ≡ End round counts
+  pub last : h.last ≡ Ok (End round counts)
   pub requests : counts.requests ≤ 8191
   pub reads : counts.reads ≤ 4096
   pub reported : counts.requests ≡ counted is_request h.sent

@@ -1,6 +1,7 @@
 -- The event round of document 01: what a start and a step hand back.
 -- Assumes nothing.
-use Rattle.std.specs.Prelude.{ℕ, zero, suc, ◌+◌, Bool, true, false, cond, not, ◌&&◌, ◌||◌, ltb, eqb}
+use Rattle.std.specs.Prelude.{ℕ, zero, suc, ◌+◌, Bool, true, false, cond, not, ◌&&◌, ◌||◌, ltb, eqb, Result, Ok, Err}
+use Rattle.refusals.specs.declared.Refusal.{Refusal}
 use Rattle.refusals.specs.declared.Refusal.TheVariants.{OutOfRange, ImpossibleRound}
 use Rattle.frames.specs.declared.LineAnswer.{LineAnswer}
 use Rattle.frames.specs.declared.LineAnswer.TheVariants.{Silence, Reply, Collision}
@@ -11,15 +12,11 @@ use Rattle.rounds.specs.declared.Phase.TheVariants.{Asked, Read, Ended}
 use Rattle.rounds.specs.declared.Counts.{Counts}
 use Rattle.rounds.specs.declared.Round.{Round}
 use Rattle.rounds.specs.declared.Step.{Step}
-use Rattle.rounds.specs.declared.Step.TheVariants.{Next, End, Refused}
+use Rattle.rounds.specs.declared.Step.TheVariants.{Next, End}
 
 -- ---- what a round holds: a phase, a place {M, C} and "three counts: requests, reads, unresolved"
-abbrev pub counts_of : Round → Counts
-counts_of r = record { requests = r.requests; reads = r.reads; unresolved = r.unresolved }
-
--- the round with this phase, place and counts
 abbrev pub round : Phase → ℕ → ℕ → Counts → Round
-round p m c k = record { phase = p; m = m; c = c; requests = k.requests; reads = k.reads; unresolved = k.unresolved }
+round p m c k = record { phase = p; m = m; c = c; counts = k }
 
 -- one request more
 abbrev pub one_request : Counts → Counts
@@ -88,11 +85,11 @@ owes Ended place = false
 
 -- "M above 12, C not below 2^(12-M), reads plus unresolved above requests"
 abbrev pub broken : Round → Bool
-broken r = not (is_group r.m r.c) || ltb r.requests (r.reads + r.unresolved)
+broken r = not (is_group r.m r.c) || ltb r.counts.requests (r.counts.reads + r.counts.unresolved)
 
 -- ".. or more than 8,190 requests counted while one is still to be asked or answered": cap is 8,190, and a read at {M, C} leads to lead M C
 abbrev pub impossible : ℕ → (ℕ → ℕ → Place) → Round → Bool
-impossible cap lead r = broken r || (ltb cap r.requests && owes r.phase (lead r.m r.c))
+impossible cap lead r = broken r || (ltb cap r.counts.requests && owes r.phase (lead r.m r.c))
 
 -- ---- a step
 -- the round has ended
@@ -107,16 +104,20 @@ reading Asked = false
 reading Read = true
 reading Ended = false
 
+-- what a start or a step hands back: a step, or a refusal
+abbrev pub Handed : Type 0
+Handed = Result Step Refusal
+
 -- "A step on an ended round answers the end again. That comes first"; then 18; then the answer to a read, "whatever comes back", or to a request
-unfoldable pub step_by : ℕ → (ℕ → ℕ → Place) → Verdict → Round → Step
+unfoldable pub step_by : ℕ → (ℕ → ℕ → Place) → Verdict → Round → Handed
 step_by cap lead v r =
-    cond (ended r.phase) (End r (counts_of r))
-    (cond (impossible cap lead r) (Refused ImpossibleRound)
-    (cond (reading r.phase) (stand (lead r.m r.c) (counts_of r))
-    (heard v r.m r.c (one_request (counts_of r)))))
+    cond (ended r.phase) (Ok (End r r.counts))
+    (cond (impossible cap lead r) (Err ImpossibleRound)
+    (cond (reading r.phase) (Ok (stand (lead r.m r.c) r.counts))
+    (Ok (heard v r.m r.c (one_request r.counts)))))
 
 -- the step of the round, on the line's answer: after a read it goes on
-abbrev pub step_of : Round → LineAnswer → Step
+abbrev pub step_of : Round → LineAnswer → Handed
 step_of r answer = step_by 8190 follows (judge r.m r.c answer) r
 
 -- nothing is counted at the start
@@ -124,5 +125,5 @@ abbrev pub none : Counts
 none = record { requests = 0; reads = 0; unresolved = 0 }
 
 -- "The start hands back the round and its first word"; parameter bits of "4,096 or more: 6"
-unfoldable pub start_of : ℕ → Step
-start_of params = cond (ltb 4095 params) (Refused OutOfRange) (Next (round Asked 12 0 none) (request_word params 12 0))
+unfoldable pub start_of : ℕ → Handed
+start_of params = cond (ltb 4095 params) (Err OutOfRange) (Ok (Next (round Asked 12 0 none) (request_word params 12 0)))

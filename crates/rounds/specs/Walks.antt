@@ -1,13 +1,12 @@
 -- "ask, and on a collision ask both halves", on any line: what is sent and counted from the request for {M, C} until all under it is done.
 -- Assumes nothing.
-use Rattle.std.specs.Prelude.{ℕ, zero, suc, ◌+◌, ◌-◌, ◌^◌, ◌≤◌, ◌≡◌, List, ◌∷◌}
+use Rattle.std.specs.Prelude.{ℕ, zero, suc, ◌+◌, ◌-◌, ◌^◌, ◌≤◌, ◌≡◌, List, ◌∷◌, Ok}
 use Rattle.groups.specs.Groups.{group_word, Place, over, at, follows}
 use Rattle.rounds.specs.declared.Phase.TheVariants.{Asked}
 use Rattle.rounds.specs.declared.Counts.{Counts}
 use Rattle.rounds.specs.declared.Round.{Round}
-use Rattle.rounds.specs.declared.Step.{Step}
 use Rattle.rounds.specs.declared.Step.TheVariants.{Next}
-use Rattle.rounds.specs.Rounds.{Verdict, nobody, named, unclear, one_request, one_read, one_unresolved, round, go_on, step_by}
+use Rattle.rounds.specs.Rounds.{Verdict, nobody, named, unclear, one_request, one_read, one_unresolved, round, go_on, Handed, step_by}
 use Rattle.rounds.specs.Lines.{History, tick_by}
 
 -- the words sent so far, the newest first, and the counts
@@ -45,21 +44,21 @@ pub data Walk (hear : Hearing) (lead : ℕ → ℕ → Place) : ℕ → ℕ → 
 
 -- ---- the steps
 -- how a round steps that hears so, with this cap and where a read leads there
-abbrev pub hearing : ℕ → (ℕ → ℕ → Place) → Hearing → List ℕ → Round → Step
+abbrev pub hearing : ℕ → (ℕ → ℕ → Place) → Hearing → List ℕ → Round → Handed
 hearing cap lead hear words r = step_by cap lead (hear words r.m r.c) r
 
 -- some number of steps lead from one history to the other
-pub data Reaches (step : List ℕ → Round → Step) : History → History → Type 0 where
+pub data Reaches (step : List ℕ → Round → Handed) : History → History → Type 0 where
   here : {h : History} → Reaches step h h
   on : {h k : History} → Reaches step (tick_by step h) k → Reaches step h k
 
 -- the request for {M, C} has been handed out
 abbrev pub asking : ℕ → ℕ → ℕ → Seen → History
-asking m c word s = record { sent = s.sent; last = Next (round Asked m c s.counts) word }
+asking m c word s = record { sent = s.sent; last = Ok (Next (round Asked m c s.counts) word) }
 
 -- the round goes on after {M, C}
 abbrev pub done : ℕ → ℕ → Seen → History
-done m c s = record { sent = s.sent; last = go_on m c s.counts }
+done m c s = record { sent = s.sent; last = Ok (go_on m c s.counts) }
 
 -- room under the cap: one more request may have been counted at the very end
 abbrev pub Room : ℕ → Place → ℕ → Type 0

@@ -3,11 +3,12 @@
 
 mod words;
 
-ghost use Rattle.std.specs.Prelude.{◌≡◌, true, ◌+◌, ◌-◌, ◌^◌, ◌≤◌};
+ghost use Rattle.std.specs.Prelude.{◌≡◌, true, ◌+◌, ◌≤◌};
+ghost use Rattle.refusals.specs.Told.{told};
 ghost use Rattle.groups.specs.Groups.{is_group, over};
-ghost use Rattle.rounds.specs.Rounds.{counts_of, ask as askOf, stand, heard, judge, broken as brokenOf, one_request, one_read, round, step_of, start_of};
-ghost use Rattle.rounds.specs.Inside.{Sound, good_answer, go_on_unless, resumed};
-ghost use Rattle.rounds.specs.Told.{told};
+ghost use Rattle.rounds.specs.Rounds.{ask as askOf, stand, go_on, split as splitOf, heard, judge, broken as brokenOf, one_request, one_read, round, step_of, start_of};
+ghost use Rattle.rounds.specs.Inside.{Sound, good_answer, resumed};
+ghost use Rattle.rounds.specs.Told.{step_values};
 
 use frames::LineAnswer;
 use refusals::Refusal;
@@ -33,98 +34,94 @@ pub struct Round {
     pub phase: Phase,
     pub m: u16,
     pub c: u16,
-    pub requests: u16,
-    pub reads: u16,
-    pub unresolved: u16,
+    pub counts: Counts,
 }
 
-// The round and its next word; or the round that has ended, and its counts; or a refusal.
+// The round and its next word; or the round that has ended, and its counts.
 #[derive(Clone, Copy)]
 pub enum Step {
     Next(Round, u16),
     End(Round, Counts),
-    Refused(Refusal),
 }
 
 impl Round {
     // A round that hands out the request for all devices, over these parameter bits.
     #[tactic(auto, unfolding(crate::specs::Rounds::start_of))]
-    pub fn start(params: u16) -> Step
-        ensures { told result ≡ told (start_of params) }
+    pub fn start(params: u16) -> Result<Step, Refusal>
+        ensures { told step_values result ≡ told step_values (start_of params) }
     {
         if 4095 < params {
-            return Step::Refused(Refusal::OutOfRange);
+            return Err(Refusal::OutOfRange);
         }
         let round = Round {
             phase: Phase::Asked,
             m: 12,
             c: 0,
-            requests: 0,
-            reads: 0,
-            unresolved: 0,
+            counts: Counts {
+                requests: 0,
+                reads: 0,
+                unresolved: 0,
+            },
         };
-        Step::Next(round, words::GENERAL_EVENT + params)
+        Ok(Step::Next(round, words::GENERAL_EVENT + params))
     }
 
     // Takes the line's answer to the word that was handed out last.
     #[tactic(auto, unfolding(crate::specs::Rounds::step_by))]
-    pub fn answer(self, answer: LineAnswer) -> Step
-        ensures { told result ≡ told (step_of self answer) }
+    pub fn answer(self, answer: LineAnswer) -> Result<Step, Refusal>
+        ensures { told step_values result ≡ told step_values (step_of self answer) }
     {
-        let phase = self.phase;
-        match phase {
-            Phase::Ended => Step::End(self, self.counts()),
+        match self.phase {
+            Phase::Ended => Ok(Step::End(self, self.counts)),
             Phase::Read => {
                 if self.broken() {
-                    return Step::Refused(Refusal::ImpossibleRound);
+                    return Err(Refusal::ImpossibleRound);
                 }
                 self.resume(answer)
             }
             Phase::Asked => {
-                // The requests come first: so the compiler has one number less to keep in registers.
-                if 8190 < self.requests || self.broken() {
-                    return Step::Refused(Refusal::ImpossibleRound);
+                if 8190 < self.counts.requests || self.broken() {
+                    return Err(Refusal::ImpossibleRound);
                 }
-                self.take(answer)
+                Ok(self.take(answer))
             }
         }
     }
 
     // The answer to a request, which counts now. Neither silence nor a good reply: the lower half first, the upper
     // follows it; or one device is left unresolved.
+    #[tactic(auto, using(crate::proofs::Steps::lower_is_group, crate::proofs::Steps::m_low))]
     fn take(mut self, answer: LineAnswer) -> Step
         requires { Sound self }
-        ensures { result ≡ heard (judge self.m self.c answer) self.m self.c (one_request (counts_of self)) }
+        ensures { result ≡ heard (judge self.m self.c answer) self.m self.c (one_request self.counts) }
     {
-        self.requests = self.requests + 1;
-        let silent = match answer {
-            LineAnswer::Silence => true,
-            LineAnswer::Reply(word) => {
-                if self.is_good(answer) {
-                    return self.read(word);
+        self.counts.requests += 1;
+        match answer {
+            LineAnswer::Silence => {}
+            LineAnswer::Reply(word) if self.is_good(answer) => return self.read(word),
+            LineAnswer::Reply(_) | LineAnswer::Collision => {
+                if self.m != 0 {
+                    return self.ask(self.m - 1, self.c);
                 }
-                false
+                self.counts.unresolved += 1;
             }
-            LineAnswer::Collision => false,
-        };
-        if !silent {
-            let m = self.m;
-            if m != 0 {
-                return self.ask(m - 1, self.c, groups::bound(m));
-            }
-            self.unresolved = self.unresolved + 1;
         }
-        self.next(false)
+        self.next()
     }
 
-    // The answer to a read, whatever it is: on to what follows.
-    fn resume(self, answer: LineAnswer) -> Step
+    // The answer to a read, whatever it is: on to what follows. A full round cannot ask any more and can only end.
+    fn resume(self, answer: LineAnswer) -> Result<Step, Refusal>
         requires { is_group self.m self.c ≡ true }
-        ensures { result ≡ resumed self.m self.c (counts_of self) }
+        ensures { result ≡ resumed self.m self.c self.counts }
     {
-        let full = 8190 < self.requests;
         match answer {
-            LineAnswer::Silence | LineAnswer::Reply(_) | LineAnswer::Collision => self.next(full),
+            LineAnswer::Silence | LineAnswer::Reply(_) | LineAnswer::Collision =>
+                match self.next() {
+                    Step::Next(_, _) if 8190 < self.counts.requests => Err(
+                        Refusal::ImpossibleRound,
+                    ),
+                    step => Ok(step),
+                },
         }
     }
 
@@ -139,87 +136,58 @@ impl Round {
     }
 
     // A good reply: its word is sent as a Master Frame.
-    fn read(self, word: u16) -> Step
-        requires { self.reads + 1 ≤ 65535 }
-        ensures { result ≡ Step.Next (round Phase.Read self.m self.c (one_read (counts_of self))) word }
+    fn read(mut self, word: u16) -> Step
+        requires { self.counts.reads + 1 ≤ 65535 }
+        ensures { result ≡ Step.Next (round Phase.Read self.m self.c (one_read self.counts)) word }
     {
-        let round = Round {
-            phase: Phase::Read,
-            m: self.m,
-            c: self.c,
-            requests: self.requests,
-            reads: self.reads + 1,
-            unresolved: self.unresolved,
-        };
-        Step::Next(round, word)
+        self.phase = Phase::Read;
+        self.counts.reads += 1;
+        Step::Next(self, word)
     }
 
     // Goes on. The highest zero of c marks the lower half whose upper one is still to be asked; above has a one where c
-    // has a zero. A full round cannot ask any more and can only end.
-    fn next(self, full: bool) -> Step
+    // has a zero.
+    #[tactic(auto, using(crate::proofs::Steps::all_ones, crate::proofs::Steps::place_low, crate::proofs::Steps::upper_follows, crate::proofs::Steps::upper_is_group))]
+    fn next(self) -> Step
         requires { is_group self.m self.c ≡ true }
-        ensures { result ≡ go_on_unless full self.m self.c (counts_of self) }
+        ensures { result ≡ go_on self.m self.c self.counts }
     {
         let above = groups::bound(self.m) - 1 - self.c;
         if above == 0 {
             return self.end();
         }
-        if full {
-            return Step::Refused(Refusal::ImpossibleRound);
-        }
-        let place = 15 - u16::leading_zeros(above);
+        let place = 15 - above.leading_zeros();
         let half = 1u16 << place;
-        self.ask(11 - place as u16, self.c % half + half, half)
+        self.ask(11 - place as u16, self.c % half + half)
     }
 
-    // Hands out the request for the group {m, c}, m at most 11. Half of its bound has been computed on the way to it.
-    fn ask(self, m: u16, c: u16, half: u16) -> Step
-        requires { (is_group m c ≡ true) × (m ≤ 11) × (half ≡ 2 ^ (11 - m)) }
-        ensures { result ≡ askOf m c (counts_of self) }
+    // Hands out the request for the group {m, c}, m at most 11.
+    fn ask(mut self, m: u16, c: u16) -> Step
+        requires { (is_group m c ≡ true) × (m ≤ 11) }
+        ensures { result ≡ askOf m c self.counts }
     {
-        let round = Round {
-            phase: Phase::Asked,
-            m: m,
-            c: c,
-            requests: self.requests,
-            reads: self.reads,
-            unresolved: self.unresolved,
-        };
-        Step::Next(round, words::group_word(half, c))
+        self.phase = Phase::Asked;
+        self.m = m;
+        self.c = c;
+        Step::Next(self, words::group_word(m, c))
     }
 
     // Ends the round.
-    fn end(self) -> Step
-        ensures { result ≡ stand over (counts_of self) }
+    fn end(mut self) -> Step
+        ensures { result ≡ stand over self.counts }
     {
-        let round = Round {
-            phase: Phase::Ended,
-            m: 12,
-            c: 0,
-            requests: self.requests,
-            reads: self.reads,
-            unresolved: self.unresolved,
-        };
-        Step::End(round, self.counts())
-    }
-
-    fn counts(self) -> Counts
-        ensures { result ≡ counts_of self }
-    {
-        Counts {
-            requests: self.requests,
-            reads: self.reads,
-            unresolved: self.unresolved,
-        }
+        self.phase = Phase::Ended;
+        self.m = 12;
+        self.c = 0;
+        Step::End(self, self.counts)
     }
 
     // Whether {m, c} is no group, or reads and unresolved devices are more than the requests.
     fn broken(self) -> bool
         ensures { result ≡ brokenOf self }
     {
-        if !groups::is_group(self.m, self.c) {
-            return true;
-        }
-        (self.requests as u32) < (self.reads as u32) + (self.unresolved as u32)
+        let counts = self.counts;
+        !groups::is_group(self.m, self.c)
+            || (counts.requests as u32) < counts.reads as u32 + counts.unresolved as u32
     }
 }

@@ -11,7 +11,15 @@ use borrow.Author.Tests.{ne_eqb}
 use lib.Dec.{T, eqb, eqb→eq, leb, leb→le}
 use lib.ListN.{get_or, get_or-eq_default}
 use Rattle.checks.proofs.Tests.{both, both_left, both_right, at_upto}
+use Rattle.checks.proofs.Tables.{below}
+use Rattle.rows.specs.declared.TheConstants.{ROWS}
 use Rattle.rows.specs.Rows.{data_bits, reserved, data_bytes, blocks, block_bytes, frame_bytes, line_bits, row_of}
+
+-- ---- the table in the code
+
+pub row_in : (f : ℕ) → f < 16 → get_or ROWS f [] ≡ row_of f
+unfolding data_bits reserved data_bytes blocks frame_bytes line_bits row_of
+row_in = below (λ f. get_or ROWS f []) row_of 16 refl
 
 -- ---- beyond the table
 
@@ -103,7 +111,40 @@ same_shape f g h =
     let d : data_bits f / 8 ≡ data_bits g / 8 = omega arith in
     ((let b : (data_bits f + 63) / 64 ≡ (data_bits g + 63) / 64 = omega arith in b), ap (min 8) d)
 
--- ---- what a row that was looked up says
+-- ---- what a row that was looked up says of its F_code
+
+module _ (f : ℕ) (row : List ℕ) (e : row ≡ row_of f) where
+  flag : get_or row 3 0 ≡ cond (reserved f) 0 1
+  unfolding row_of
+  flag = ap (λ (l : List ℕ). get_or l 3 0) e ∙ by_case (reserved f)
+    where
+      by_case : (b : Bool) → get_or (cond b (0 ∷ 0 ∷ 0 ∷ 0 ∷ []) (data_bits f ∷ frame_bytes f ∷ line_bits f ∷ 1 ∷ [])) 3 0 ≡ cond b 0 1
+      by_case true = refl
+      by_case false = refl
+
+  pub reserved_row : get_or row 3 0 ≡ 0 → reserved f ≡ true
+  reserved_row h = by_case (reserved f) (sym flag ∙ h)
+    where
+      by_case : (b : Bool) → ◌≡◌ {A = ℕ} (cond b 0 1) 0 → b ≡ true
+      by_case true z = refl
+      by_case false z = absurd (omega arith)
+
+  pub allowed_row : (get_or row 3 0 ≡ 0 → ⊥) → reserved f ≡ false
+  allowed_row h = by_case (reserved f) (λ z. h (flag ∙ z))
+    where
+      by_case : (b : Bool) → (◌≡◌ {A = ℕ} (cond b 0 1) 0 → ⊥) → b ≡ false
+      by_case true z = absurd (z refl)
+      by_case false z = refl
+
+-- the same as a test
+pub reserved_is : (f : ℕ) (row : List ℕ) → row ≡ row_of f → eqb (get_or row 3 0) 0 ≡ reserved f
+reserved_is f row e = ap (λ k. eqb k 0) (flag f row e) ∙ by_case (reserved f)
+  where
+    by_case : (b : Bool) → eqb (cond b 0 1) 0 ≡ b
+    by_case true = refl
+    by_case false = refl
+
+-- ---- what else it says
 
 module _ (f : ℕ) (row : List ℕ) (e : row ≡ row_of f) where
   pub row_allowed : eqb (get_or row 3 0) 1 ≡ not (reserved f)

@@ -1,6 +1,6 @@
 -- What the search of a group finds: one request settles it, or both halves are searched.
 -- Assumes nothing.
-use mathlib.Core.Path.{◌≡◌, refl, sym, ap, ap₂, ◌∙◌, subst}
+use mathlib.Core.Path.{◌≡◌, refl, sym, ap, ◌∙◌, subst}
 use mathlib.Core.Bool.{Bool, true}
 use mathlib.Core.List.{List, [], ◌∷◌, ◌++◌, append-nil, append_assoc, Memᴰ}
 use Prim.Native.Nat.{ℕ, zero, suc, ◌+◌, ◌-◌, ◌%◌, ◌^◌, ◌≤◌}
@@ -11,13 +11,12 @@ use lib.Seq.{take_all, take_at, drop_at, drop-drop}
 use Rattle.std.proofs.lemmas.List.{drop_all}
 use borrow.Author.Tests.{eq-eqb, le-ltb}
 use Rattle.refusals.specs.Told.{gives}
-use Rattle.frames.specs.declared.LineAnswer.{LineAnswer}
 use Rattle.frames.specs.declared.LineAnswer.TheVariants.{Silence, Reply, Collision}
 use Rattle.frames.specs.Words.{word_of}
 use Rattle.groups.specs.Groups.{is_group}
 use Rattle.groups.specs.Sets.{devices, how_many}
 use Rattle.groups.specs.Search.{search_of}
-use Rattle.groups.proofs.Follow.{Group, is_group_lem, group_is, in_lower, in_upper}
+use Rattle.groups.proofs.Follow.{is_group_lem, group_is, in_lower, in_upper}
 use Rattle.groups.proofs.Members.{member}
 use Rattle.groups.proofs.Counting.{set_count}
 use Rattle.groups.proofs.Costs.{finds, devices_few, requests_few, once, collided, halved}
@@ -47,25 +46,20 @@ first_set : (out : List ℕ) (a : ℕ) → 1 ≤ length out → set out 0 a ≡ 
 first_set [] a h = absurd (omega arith)
 first_set (x ∷ out) a h = refl
 
-module _ (S : ℕ → Bool) (m c : ℕ) (out : List ℕ) {a : LineAnswer} (e : a ≡ answer_to (devices S m c)) where
-  pub found_none : a ≡ Silence → Finds S m c out (record { requests = 1; reads = 0 }) out
-  found_none k =
-      let l : devices S m c ≡ [] = none_there (devices S m c) (sym e ∙ k) in
+module _ (S : ℕ → Bool) (m c : ℕ) (out : List ℕ) where
+  pub found_none : Silence ≡ answer_to (devices S m c) → Finds S m c out (record { requests = 1; reads = 0 }) out
+  found_none e =
+      let l : devices S m c ≡ [] = none_there (devices S m c) (sym e) in
       let n : length (devices S m c) ≡ 0 = ap length l in
       record { asked = sym (once S m c (omega arith)); read = omega arith; wrote = rw l refl }
 
-  pub room_one : (w : ℕ) → a ≡ Reply w → length (devices S m c) ≡ 1
-  room_one w k = ap length (one_there (devices S m c) w (sym e ∙ k)).1
-
-  pub found_one : (w : ℕ) → a ≡ Reply w → is_group m c ≡ true → length (devices S m c) ≤ length out → Finds S m c out (record { requests = 1; reads = 1 }) (set out 0 (w % 4096))
-  found_one w k g r =
-      let o = one_there (devices S m c) w (sym e ∙ k) in
-      let n = room_one w k in
-      let x = o.0 in
-      let s = (member S m c (group_is m c g) x (subst (λ (l : List ℕ). Memᴰ x l) (sym o.1) (Memᴰ.head refl))).small in
-      let q : w ≡ 49152 + x = o.2 in
-      let v : w % 4096 ≡ x = omega arith in
-      record { asked = sym (once S m c (omega arith)); read = sym n; wrote = first_set out (w % 4096) (omega arith) ∙ rw (o.1, v) refl }
+  pub found_one : (w : ℕ) → Reply w ≡ answer_to (devices S m c) → is_group m c ≡ true → length (devices S m c) ≤ length out → Finds S m c out (record { requests = 1; reads = 1 }) (set out 0 (w % 4096))
+  found_one w e g r =
+      let (x, l, q) = one_there (devices S m c) w (sym e) in
+      let n : length (devices S m c) ≡ 1 = ap length l in
+      let s = (member S m c (group_is m c g) x (subst (λ (k : List ℕ). Memᴰ x k) (sym l) (Memᴰ.head refl))).small in
+      let v : w % 4096 ≡ x = omega (arith, q) in
+      record { asked = sym (once S m c (omega arith)); read = sym n; wrote = first_set out (w % 4096) (omega arith) ∙ rw (l, v) refl }
 
 -- ---- a collision: both halves
 -- what the lower half wrote, and behind it the upper half
@@ -77,9 +71,9 @@ joined l h out r k e f =
     rw (d, take_at l (drop (length l) out) r e, take_all k (drop (length l) out) (omega arith), drop_all k (drop (length l) out) (omega arith), append-nil (h ++ drop (length h) (drop (length l) out)), drop-drop (length h) (length l) out, length-append l h)
     (sym (append_assoc l h (drop (length l + length h) out)))
 
-module _ (S : ℕ → Bool) (m c : ℕ) (g : is_group m c ≡ true) {a : LineAnswer} (e : a ≡ answer_to (devices S m c)) (k : a ≡ Collision) where
+module _ (S : ℕ → Bool) (m c : ℕ) (g : is_group m c ≡ true) (e : Collision ≡ answer_to (devices S m c)) where
   two : 2 ≤ length (devices S m c)
-  two = more_there (devices S m c) (sym e ∙ k)
+  two = more_there (devices S m c) (sym e)
 
   -- a single device does not collide with itself
   pub has_halves : 1 ≤ m
@@ -112,8 +106,11 @@ module _ (S : ℕ → Bool) (m c : ℕ) (g : is_group m c ≡ true) {a : LineAns
       }
 
   module _ (out : List ℕ) (room : length (devices S m c) ≤ length out) (h : ℕ) (p : h ≡ 2 ^ (12 - m)) where
-    pub both : length (devices S m c) ≡ length (devices S (m - 1) c) + length (devices S (m - 1) (c + h))
+    both : length (devices S m c) ≡ length (devices S (m - 1) c) + length (devices S (m - 1) (c + h))
     both = ap length (halves h p).order ∙ length-append (devices S (m - 1) c) (devices S (m - 1) (c + h))
+
+    pub room_low : length (devices S (m - 1) c) ≤ length out
+    room_low = omega (arith, both)
 
     module _ {low : Found} {out₁ : List ℕ} (x : Finds S (m - 1) c out low out₁) where
       pub room_high : length (devices S (m - 1) (c + h)) ≤ length (take (length out₁ - low.reads) (drop low.reads out₁))
@@ -122,23 +119,24 @@ module _ (S : ℕ → Bool) (m c : ℕ) (g : is_group m c ≡ true) {a : LineAns
           let t : take (length out₁ - low.reads) (drop low.reads out₁) ≡ drop low.reads out₁ = take_all (length out₁ - low.reads) (drop low.reads out₁) (omega (arith, length-drop low.reads out₁)) in
           rw t (omega (arith, both, x.read, length-drop low.reads out₁))
 
-      pub found_both : {high : Found} {out₂ : List ℕ} → Finds S (m - 1) (c + h) (take (length out₁ - low.reads) (drop low.reads out₁)) high out₂ →
-          Finds S m c out (record { requests = 1 + (low.requests + high.requests); reads = low.reads + high.reads }) (take low.reads out₁ ++ (out₂ ++ drop (length out₁ - low.reads) (drop low.reads out₁)))
-      found_both {high} {out₂} y =
-          let s = halves h p in
-          record {
-            asked = omega (arith, s.asked, x.asked, y.asked);
-            read = omega (arith, both, x.read, y.read);
-            wrote = rw (y.wrote, x.wrote) (joined (devices S (m - 1) c) (devices S (m - 1) (c + h)) out low.reads _ (sym x.read) refl) ∙ ap (λ (l : List ℕ). l ++ drop (length l) out) (sym s.order);
-          }
+      module _ {high : Found} {out₂ : List ℕ} (y : Finds S (m - 1) (c + h) (take (length out₁ - low.reads) (drop low.reads out₁)) high out₂) where
+        pub found_both : Finds S m c out (record { requests = 1 + (low.requests + high.requests); reads = low.reads + high.reads }) (take low.reads out₁ ++ (out₂ ++ drop (length out₁ - low.reads) (drop low.reads out₁)))
+        found_both =
+            let s = halves h p in
+            record {
+              asked = omega (arith, s.asked, x.asked, y.asked);
+              read = omega (arith, both, x.read, y.read);
+              wrote = rw (y.wrote, x.wrote) (joined (devices S (m - 1) c) (devices S (m - 1) (c + h)) out low.reads _ (sym x.read) refl) ∙ ap (λ (l : List ℕ). l ++ drop (length l) out) (sym s.order);
+            }
 
--- so many requests and reads fit their numbers
-pub found_few : {S : ℕ → Bool} {m c : ℕ} {out : List ℕ} {found : Found} {out₁ : List ℕ} → is_group m c ≡ true → Finds S m c out found out₁ → (found.requests ≤ 8191) × (found.reads ≤ 4096)
-found_few {S} {m} {c} g w =
-    let t = (group_is m c g).0 in
-    let p : 2 ^ suc m ≤ 2 ^ 13 = pow_mono {j = 13} (omega arith) in
-    let q : 2 ^ m ≤ 2 ^ 12 = pow_mono {j = 12} (omega arith) in
-    (omega (arith, w.asked, requests_few S m c), omega (arith, w.read, devices_few S m c))
+        -- so many requests and reads fit their numbers
+        pub found_few : (1 + (low.requests + high.requests) ≤ 8191) × (low.reads + high.reads ≤ 4096)
+        found_few =
+            let t = (group_is m c g).0 in
+            let u : 2 ^ suc m ≤ 2 ^ 13 = pow_mono {j = 13} (omega arith) in
+            let v : 2 ^ m ≤ 2 ^ 12 = pow_mono {j = 12} (omega arith) in
+            let w = found_both in
+            (omega (arith, w.asked, requests_few S m c), omega (arith, w.read, devices_few S m c))
 
 -- ---- the search of the set
 module _ (bytes out : List ℕ) (h : length bytes ≡ 512) (l : how_many (in_set bytes) 4096 ≤ length out) (marked : List ℕ) (e : marked ≡ bytes) where

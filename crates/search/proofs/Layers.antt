@@ -8,13 +8,13 @@ use native.Mathlib.Omega.{arith}
 use native.Mathlib.Decide.{dec_le}
 use lib.Bits.{bit_or, bit_and}
 use lib.Dec.{leb, lit≤}
-use lib.ListN.{length, length-append, length-drop, length-set, get_or, drop, set, get_or-eq_default}
-use lib.Pow.{pow_mono, pow-add, pow_pos}
+use lib.ListN.{length, length-append, length-drop, length-set, length-replicate, get_or, drop, set, replicate}
+use lib.Pow.{pow_mono, pow-add}
 use lib.Seq.{get_or-drop, get_or-set_same, get_or-set_other, drop-set-lt, ext_get_or}
 use Rattle.groups.specs.Groups.{is_group}
 use Rattle.groups.specs.Sets.{devices}
 use Rattle.groups.proofs.Follow.{Group, is_group_lem, group_is, in_lower, in_upper}
-use Rattle.groups.proofs.Powers.{at_most, doubled, cut}
+use Rattle.groups.proofs.Powers.{at_most, cut}
 use Rattle.groups.proofs.Costs.{halved}
 use Rattle.search.specs.Searches.{in_set}
 use Rattle.search.specs.Inside.{bit_of, mark_of, One, Two, Marked, Packed}
@@ -93,14 +93,14 @@ module _ (bytes : List ℕ) (n : ℕ) (h : suc n ≤ 12) where
 -- so many bytes of one M are done, each from those of its halves; the bytes behind them are as they were
 pub record Layered (any₀ two₀ any two : List ℕ) (w i : ℕ) : Type 0 where
   pub any_length : length any ≡ 1024
-  pub two_length : length two ≡ 512
+  pub two_length : length two ≡ 1024
   pub any_kept : (s : ℕ) → 2 * w ≤ s → get_or any s 0 ≡ get_or any₀ s 0
   pub two_kept : (s : ℕ) → 2 * w ≤ s → get_or two s 0 ≡ get_or two₀ s 0
   pub any_done : (j : ℕ) → j < i → get_or any (w + j) 0 ≡ bit_or (get_or any₀ (2 * w + j) 0) (get_or any₀ (3 * w + j) 0)
   pub two_done : (j : ℕ) → j < i → get_or two (w + j) 0 ≡ bit_or (bit_or (get_or two₀ (2 * w + j) 0) (get_or two₀ (3 * w + j) 0)) (bit_and (get_or any₀ (2 * w + j) 0) (get_or any₀ (3 * w + j) 0))
 
 -- no byte is done yet
-pub none_done : (any two : List ℕ) (w : ℕ) → length any ≡ 1024 → length two ≡ 512 → Layered any two any two w 0
+pub none_done : (any two : List ℕ) (w : ℕ) → length any ≡ 1024 → length two ≡ 1024 → Layered any two any two w 0
 none_done any two w a t = record {
   any_length = a;
   two_length = t;
@@ -215,34 +215,26 @@ module _ (bytes any₀ two₀ any two : List ℕ) (w m : ℕ) (h : 1 ≤ m) (k :
       }
 
 -- ---- M = 0: the set itself
--- no mark is set behind 512 bytes
-pub beyond : (l : List ℕ) (i : ℕ) → length l ≡ 512 → 4096 ≤ i → in_set l i ≡ false
-beyond l i e h = no_bit _ (i % 8) (get_or-eq_default l 0 {n = i / 8} (omega arith))
+get_or-zeros : (n i : ℕ) → ◌≡◌ {A = ℕ} (get_or (replicate n 0) i 0) 0
+get_or-zeros zero i = refl
+get_or-zeros (suc n) zero = refl
+get_or-zeros (suc n) (suc i) = get_or-zeros n i
 
 -- the set as it was copied
-pub set_marked : (any two : List ℕ) → length any ≡ 1024 → length two ≡ 512 → Marked (drop 512 any) any two 0
-set_marked any two a t = record {
+pub set_marked : (any : List ℕ) → length any ≡ 1024 → Marked (drop 512 any) any (replicate 1024 0) 0
+set_marked any a = record {
   any_length = a;
-  two_length = t;
+  two_length = length-replicate {A = ℕ} 1024 0;
   whole = refl;
   ones = λ m c g h. let z : 0 ≡ m = omega arith in subst (λ (i : ℕ). in_set any (mark_of i c) ≡ leb 1 (length (devices (in_set (drop 512 any)) i c))) z (one c);
-  twos = λ m c g h. let z : 0 ≡ m = omega arith in subst (λ (i : ℕ). in_set two (mark_of i c) ≡ leb 2 (length (devices (in_set (drop 512 any)) i c))) z (none c);
+  twos = λ m c g h. let z : 0 ≡ m = omega arith in subst (λ (i : ℕ). in_set (replicate 1024 0) (mark_of i c) ≡ leb 2 (length (devices (in_set (drop 512 any)) i c))) z (none c);
 }
   where
     one : (c : ℕ) → in_set any (4096 + c) ≡ leb 1 (length (devices (in_set (drop 512 any)) 0 c))
     one c = bit_at any 512 c ∙ ap (λ (x : ℕ). bit_of x (c % 8)) (sym (get_or-drop 512 any (c / 8) 0)) ∙ sym (single-one (in_set (drop 512 any)) c)
 
-    none : (c : ℕ) → in_set two (4096 + c) ≡ leb 2 (length (devices (in_set (drop 512 any)) 0 c))
-    none c = beyond two (4096 + c) t (omega arith) ∙ sym (single_two (in_set (drop 512 any)) c)
-
--- a pair of devices is two where both have an event
-pub pair_done : (any₀ two₀ any two : List ℕ) (i : ℕ) → Layered any₀ two₀ any two 256 i → i < 256 →
-    Layered any₀ two₀ (set any (256 + i) (bit_or (get_or any (512 + i) 0) (get_or any (768 + i) 0))) (set two (256 + i) (bit_and (get_or any (512 + i) 0) (get_or any (768 + i) 0))) 256 (i + 1)
-pair_done any₀ two₀ any two i l h =
-    let t = l.two_length in
-    let z₂ : get_or two (512 + i) 0 ≡ 0 = get_or-eq_default two 0 {n = 512 + i} (omega arith) in
-    let z₃ : get_or two (768 + i) 0 ≡ 0 = get_or-eq_default two 0 {n = 768 + i} (omega arith) in
-    byte_done any₀ two₀ any two 256 i l h (lit≤ tt) _ _ refl (rw (z₂, z₃) refl)
+    none : (c : ℕ) → in_set (replicate 1024 0) (4096 + c) ≡ leb 2 (length (devices (in_set (drop 512 any)) 0 c))
+    none c = no_bit _ ((4096 + c) % 8) (get_or-zeros 1024 ((4096 + c) / 8)) ∙ sym (single_two (in_set (drop 512 any)) c)
 
 -- ---- M = 10 to 12, in the first byte
 -- the marks from 1 to 15, byte by byte of one M
@@ -350,18 +342,13 @@ module _ (any two : List ℕ) (p r : ℕ) (q : Marked (drop 512 any) any two 9) 
         twos = top_twos (drop 512 any) (set any 0 p) (set two 0 r) x₀ y₀ a b o t;
       }
 
--- where the marks end: those of all groups, and those of groups of two devices or more
-pub marks_end : (m c : ℕ) → is_group m c ≡ true → (mark_of m c < 8192) × (1 ≤ m → mark_of m c < 4096)
-marks_end m c g =
-    let t = group_is m c g in
-    let n = t.1 in (
-      omega (arith, at_most (12 - m) (omega arith)),
-      λ h. let p : 2 ^ (12 - m) ≤ 2 ^ 11 = pow_mono {j = 11} (omega arith) in omega arith,
-    )
+-- where the marks end
+pub marks_end : (m c : ℕ) → is_group m c ≡ true → mark_of m c < 8192
+marks_end m c g = let n = (group_is m c g).1 in omega (arith, at_most (12 - m) (omega arith))
 
 -- how many bytes the marks of one M take
-pub layer_width : (m : ℕ) → 2 ≤ m → m ≤ 9 → 512 / 2 ^ m ≤ 128
-layer_width m h k = let p : 2 ^ (9 - m) ≤ 2 ^ 7 = pow_mono {j = 7} (omega arith) in omega (arith, cut 9 m k)
+pub layer_width : (m : ℕ) → 1 ≤ m → m ≤ 9 → 512 / 2 ^ m ≤ 256
+layer_width m h k = let p : 2 ^ (9 - m) ≤ 2 ^ 8 = pow_mono {j = 8} (omega arith) in omega (arith, cut 9 m k)
 
 -- marks of a set are those of their own last bytes
 pub own : (bytes any two : List ℕ) (top : ℕ) → Marked bytes any two top → Marked (drop 512 any) any two top

@@ -33,12 +33,12 @@ pub slice_bounds-slave_write-end : goal.slice_bounds-slave_write-end
 slice_bounds-slave_write-end c = port_within c.args.seen (address c.args.word) c.requires (ap not c.if-not-good.false) c.if-seen-place.false _ c.if-store-seen.false _ (size_is c.args.seen (address c.args.word, c.requires) (ap not c.if-not-good.false) c.if-seen-place.false)
 
 pub value-requires : goal.value-requires
-value-requires c = omega (arith, written_small _ _ _ _ c.in-Bytes.ensures.0)
+value-requires c = omega (arith, written_small _ _ _ _ c.in-Ok.ensures.0)
 
-pub returns-in-Bytes : goal.returns-in-Bytes
-returns-in-Bytes c =
-    answer_done c.args.seen _ _ _ _ (ap not c.if-not-good.false) c.if-store-seen.false _ c.f_code_of-f_code.ensures c.if-f_code-gt4.false c.if-seen-place.false c.if-place-f_code.false c.if-place-ne0.false _ ((size_is c.args.seen (address c.args.word, c.requires) (ap not c.if-not-good.false) c.if-seen-place.false) ∙ ap data_bytes c.if-place-f_code.false) (port_within c.args.seen (address c.args.word) c.requires (ap not c.if-not-good.false) c.if-seen-place.false _ c.if-store-seen.false _ (size_is c.args.seen (address c.args.word, c.requires) (ap not c.if-not-good.false) c.if-seen-place.false)) _ _ c.in-Bytes.ensures.0 c.in-Bytes.ensures.1 c.value.ensures
+pub returns-in-Ok : goal.returns-in-Ok
+returns-in-Ok c =
+    answer_done c.args.seen _ _ _ _ (ap not c.if-not-good.false) c.if-store-seen.false _ c.f_code_of-f_code.ensures c.if-f_code-gt4.false c.if-seen-place.false c.if-place-f_code.false c.if-place-ne0.false _ ((size_is c.args.seen (address c.args.word, c.requires) (ap not c.if-not-good.false) c.if-seen-place.false) ∙ ap data_bytes c.if-place-f_code.false) (port_within c.args.seen (address c.args.word) c.requires (ap not c.if-not-good.false) c.if-seen-place.false _ c.if-store-seen.false _ (size_is c.args.seen (address c.args.word, c.requires) (ap not c.if-not-good.false) c.if-seen-place.false)) _ _ c.in-Ok.ensures.0 c.in-Ok.ensures.1 c.value.ensures
 
-pub returns-in-Refused : goal.returns-in-Refused
-returns-in-Refused c =
-    answer_out_lem c.args.seen _ _ _ _ (ap not c.if-not-good.false) c.if-store-seen.false _ c.f_code_of-f_code.ensures c.if-f_code-gt4.false c.if-seen-place.false c.if-place-f_code.false c.if-place-ne0.false _ ((size_is c.args.seen (address c.args.word, c.requires) (ap not c.if-not-good.false) c.if-seen-place.false) ∙ ap data_bytes c.if-place-f_code.false) (port_within c.args.seen (address c.args.word) c.requires (ap not c.if-not-good.false) c.if-seen-place.false _ c.if-store-seen.false _ (size_is c.args.seen (address c.args.word, c.requires) (ap not c.if-not-good.false) c.if-seen-place.false)) _ _ c.in-Refused.ensures.0 c.in-Refused.ensures.1 c.code-in-Refused.ensures
+pub returns-in-Err : goal.returns-in-Err
+returns-in-Err c =
+    answer_out_lem c.args.seen _ _ _ _ (ap not c.if-not-good.false) c.if-store-seen.false _ c.f_code_of-f_code.ensures c.if-f_code-gt4.false c.if-seen-place.false c.if-place-f_code.false c.if-place-ne0.false _ ((size_is c.args.seen (address c.args.word, c.requires) (ap not c.if-not-good.false) c.if-seen-place.false) ∙ ap data_bytes c.if-place-f_code.false) (port_within c.args.seen (address c.args.word) c.requires (ap not c.if-not-good.false) c.if-seen-place.false _ c.if-store-seen.false _ (size_is c.args.seen (address c.args.word, c.requires) (ap not c.if-not-good.false) c.if-seen-place.false)) _ _ c.in-Err.ensures.0 c.in-Err.ensures.1 c.code-in-Err.ensures

@@ -34,10 +34,10 @@ slice_bounds-slave_read-count c = omega (arith, (port_within c.args.seen (addres
 pub slice_bounds-slave_read-start : goal.slice_bounds-slave_read-start
 slice_bounds-slave_read-start c = omega (arith, (port_within c.args.seen (address c.args.word) c.requires (ap not c.if-not-good.false) c.if-seen-at.false _ c.if-store-seen.false _ (ap data_bytes (sym c.if-place-f_code.false))))
 
-pub returns-in-Bytes : goal.returns-in-Bytes
-returns-in-Bytes c =
-    arrive_done c.args.seen _ _ _ _ _ (ap not c.if-not-good.false) c.if-store-seen.false c.if-ages-seen.false _ c.f_code_of-f_code.ensures c.if-f_code-gt4.false c.if-seen-at.false c.if-place-f_code.false c.if-place-eq0.false (port_within c.args.seen (address c.args.word) c.requires (ap not c.if-not-good.false) c.if-seen-at.false _ c.if-store-seen.false _ (ap data_bytes (sym c.if-place-f_code.false))) _ c.in-Bytes.ensures.1 _ c.in-Bytes.ensures.0 refl
+pub returns-in-Ok : goal.returns-in-Ok
+returns-in-Ok c =
+    arrive_done c.args.seen _ _ _ _ _ (ap not c.if-not-good.false) c.if-store-seen.false c.if-ages-seen.false _ c.f_code_of-f_code.ensures c.if-f_code-gt4.false c.if-seen-at.false c.if-place-f_code.false c.if-place-eq0.false (port_within c.args.seen (address c.args.word) c.requires (ap not c.if-not-good.false) c.if-seen-at.false _ c.if-store-seen.false _ (ap data_bytes (sym c.if-place-f_code.false))) _ c.in-Ok.ensures.1 _ c.in-Ok.ensures.0 refl
 
-pub returns-in-Refused : goal.returns-in-Refused
-returns-in-Refused c =
-    arrive_frame c.args.seen _ _ _ _ _ (ap not c.if-not-good.false) c.if-store-seen.false c.if-ages-seen.false _ c.f_code_of-f_code.ensures c.if-f_code-gt4.false c.if-seen-at.false c.if-place-f_code.false c.if-place-eq0.false (port_within c.args.seen (address c.args.word) c.requires (ap not c.if-not-good.false) c.if-seen-at.false _ c.if-store-seen.false _ (ap data_bytes (sym c.if-place-f_code.false))) _ c.in-Refused.ensures.1 _ c.in-Refused.ensures.0 c.code-in-Refused.ensures
+pub returns-in-Err : goal.returns-in-Err
+returns-in-Err c =
+    arrive_frame c.args.seen _ _ _ _ _ (ap not c.if-not-good.false) c.if-store-seen.false c.if-ages-seen.false _ c.f_code_of-f_code.ensures c.if-f_code-gt4.false c.if-seen-at.false c.if-place-f_code.false c.if-place-eq0.false (port_within c.args.seen (address c.args.word) c.requires (ap not c.if-not-good.false) c.if-seen-at.false _ c.if-store-seen.false _ (ap data_bytes (sym c.if-place-f_code.false))) _ c.in-Err.ensures.1 _ c.in-Err.ensures.0 c.code-in-Err.ensures
