@@ -2,7 +2,7 @@
 -- Assumes nothing.
 use native.Mathlib.Omega.{arith}
 use Rattle.list_text.proofs.WroteLaws.{as_bytes}
-use Rattle.list_text.proofs.LinesLaws.{counted, counted_few, lines_start, lines_end, place_few, word_small, lines_more}
+use Rattle.list_text.proofs.LinesLaws.{counted, lines_start, lines_end, place_few, word_small, lines_more}
 use Rattle.list_text.proofs.lines.put_words.Goals as goal
 
 pub loop-i-init : goal.loop-i-init
