@@ -11,7 +11,7 @@ pub fn bound(m: u16) -> u16
     if m < 13 { 4096 >> m } else { 1 }
 }
 
-// Whether {m, c} is a group.
+// Whether {m, c} is a group. The two stay numbers of their own, as C lends any two and a round holds them.
 pub fn is_group(m: u16, c: u16) -> bool
     ensures { result ≡ is_group m c }
 {

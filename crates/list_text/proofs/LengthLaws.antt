@@ -1,6 +1,7 @@
 -- How long the lines of a list can be.
 -- Assumes nothing.
 use Prim.Native.Nat.{ℕ, suc, ◌*◌, ◌^◌, ◌≤◌}
+use mathlib.Core.Path.{◌≡◌}
 use mathlib.Core.List.{List, [], ◌∷◌}
 use native.Mathlib.Omega.{arith}
 use lib.ListN.{length, take, drop, length-append, length-take, length-drop}
@@ -16,6 +17,11 @@ line_few cycle sub w = omega (arith, line_length cycle sub w, field_length cycle
 pub lines_few : (cycle sub : ℕ) (ws : List ℕ) → length (word_lines cycle sub ws) ≤ 15 * length ws
 lines_few cycle sub [] = omega arith
 lines_few cycle sub (w ∷ ws) = omega (arith, length-append (word_line cycle sub w) (word_lines cycle sub ws), line_few cycle sub w, lines_few cycle sub ws)
+
+pub lines_long : (cycle sub : ℕ) (ws : List ℕ) → length (word_lines cycle sub ws) ≡ length ws * length (word_line cycle sub 0)
+lines_long cycle sub [] = omega arith
+lines_long cycle sub (w ∷ ws) =
+    omega (arith, length-append (word_line cycle sub w) (word_lines cycle sub ws), lines_long cycle sub ws, line_length cycle sub w, line_length cycle sub 0)
 
 pub sum_few : (cycle sub : ℕ) (ws zs : List ℕ) → length (subcycle_lines cycle sub (cut_by ws zs)) ≤ 15 * sum zs
 sum_few cycle sub ws [] = omega arith

@@ -126,6 +126,27 @@ pub refused_length : (n : ℕ) → length (refused_line n) ≡ 8 + length (field
 unfolding refused_line
 refused_length n = length-append ((114 ∷ 101 ∷ 102 ∷ 117 ∷ []) ++ 115 ∷ 101 ∷ 100 ∷ space ∷ []) (field n newline)
 
+pub decimal_two : (n : ℕ) → 10 ≤ n → n < 100 → length (decimal n) ≡ 2
+decimal_two n l h = ap length (decimal_small n h ∙ two_large n l)
+
+last_two : (n : ℕ) → 100 ≤ n → length (decimal n) ≡ length (two (n / 100)) + 2
+last_two n h =
+    ap length (decimal_large n h)
+    ∙ omega (arith, length-append (two (n / 100)) (digit (n / 10 % 10) ∷ []), length-append (two (n / 100) ++ digit (n / 10 % 10) ∷ []) (digit (n % 10) ∷ []))
+
+pub decimal_hundreds : (n : ℕ) → 100 ≤ n → n < 1000 → length (decimal n) ≡ 3
+decimal_hundreds n l h = omega (arith, last_two n l, ap length (two_small (n / 100) (omega arith)))
+
+pub decimal_four : (n : ℕ) → 1000 ≤ n → length (decimal n) ≡ 4
+decimal_four n l = omega (arith, last_two n (omega arith), ap length (two_large (n / 100) (omega arith)))
+
+pub line_is_long : (cycle sub a b : ℕ) → a ≡ length (decimal cycle) → b ≡ length (decimal sub) → a + b + 7 ≡ length (word_line cycle sub 0)
+line_is_long cycle sub a b p q = omega (arith, line_length cycle sub 0, field_length cycle space, field_length sub newline)
+
+pub ruleset digits_known = (decimal_one, decimal_two, decimal_hundreds, decimal_four)
+
+pub ruleset line_long = line_is_long
+
 -- ---- for a line's methods
 pub decimal_pushed : (s : List ℕ) (n : ℕ) → n < 10000 → (((s ++ place n 1000) ++ place n 100) ++ place n 10) ++ digit (n % 10) ∷ [] ≡ s ++ decimal n
 decimal_pushed s n h =

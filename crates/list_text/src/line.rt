@@ -33,6 +33,31 @@ fn digit_of(d: u16) -> u8
     }
 }
 
+// How many digits a number below 10,000 has.
+#[tactic(auto, using(crate::proofs::LineLaws::digits_known))]
+fn digits(n: u16) -> usize
+    ensures { (result ≡ length (decimal n)) × (result ≤ 4) }
+{
+    if n < 10 {
+        return 1;
+    }
+    if n < 100 {
+        return 2;
+    }
+    if n < 1000 {
+        return 3;
+    }
+    4
+}
+
+// How long the line of any word of a Subcycle is.
+#[tactic(auto, using(crate::proofs::LineLaws::line_long))]
+pub(crate) fn word_length(cycle: u16, sub: u16) -> usize
+    ensures { (result ≡ length (word_line cycle sub 0)) × (result ≤ 15) }
+{
+    digits(cycle) + digits(sub) + 7
+}
+
 impl Line {
     fn new() -> Line
         ensures { result ≡ [] }

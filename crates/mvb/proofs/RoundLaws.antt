@@ -42,23 +42,9 @@ six (x ∷ y ∷ z ∷ v ∷ w ∷ []) h = absurd (omega arith)
 six (x ∷ y ∷ z ∷ v ∷ w ∷ t ∷ l) h = refl
 
 module _ (run : List ℕ) (r : Round) (h : 6 ≤ length run) where
-  abbrev all_but_reads : List ℕ
-  all_but_reads = set (set (set (set (set run 0 (phase_number r.phase)) 1 r.m) 2 r.c) 3 r.counts.requests) 5 r.counts.unresolved
-
-  pub stored_reads : set all_but_reads 4 r.counts.reads ≡ stored r run
-  stored_reads = ap (λ (l : List ℕ). set (set (set (set (set (set l 0 (phase_number r.phase)) 1 r.m) 2 r.c) 3 r.counts.requests) 5 r.counts.unresolved) 4 r.counts.reads) (six run h)
-
-  pub stored_others : r.counts.reads ≡ get_or run 4 0 → all_but_reads ≡ stored r run
-  stored_others e =
-      ap (λ (l : List ℕ). set (set (set (set (set l 0 (phase_number r.phase)) 1 r.m) 2 r.c) 3 r.counts.requests) 5 r.counts.unresolved) (six run h)
-      ∙ ap (λ (n : ℕ). phase_number r.phase ∷ r.m ∷ r.c ∷ r.counts.requests ∷ n ∷ r.counts.unresolved ∷ drop 6 run) (sym e)
-
   -- with the reads written first
   pub reads_first : (n : ℕ) → stored r (set run 4 n) ≡ stored r run
   reads_first n = ap (λ (l : List ℕ). round_values r ++ drop 6 (set l 4 n)) (six run h)
-
-  pub reads_written : (n : ℕ) → n ≡ get_or (set run 4 n) 4 0
-  reads_written n = sym (ap (λ (l : List ℕ). get_or (set l 4 n) 4 0) (six run h))
 
 -- ---- a step
 

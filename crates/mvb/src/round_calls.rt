@@ -1,5 +1,5 @@
 // The event round and the search, as C calls them. A round is lent as six numbers: phase, M, C, requests, reads, unresolved.
-ghost use Rattle.std.specs.Prelude.{◌≡◌, ◌≤◌, length};
+ghost use Rattle.std.specs.Prelude.{◌≡◌, ◌≤◌, ltb, length};
 ghost use Rattle.refusals.specs.Codes.{told_code};
 ghost use Rattle.mvb.specs.Rounds.{phase_of, round_in, stored, start_answer, start_run, round_answer, round_run};
 ghost use Rattle.mvb.specs.Inside.{AsHeard, ReadsStand};
@@ -29,6 +29,13 @@ fn phase_of(number: u16) -> Phase
     }
 }
 
+// Whether a run is too short for a round.
+fn is_short(run: &[u16]) -> bool
+    ensures { result ≡ ltb (length run.now) 6 }
+{
+    run.len() < 6
+}
+
 // The round in a run.
 #[tactic(auto, unfolding(crate::specs::Rounds::round_in))]
 fn load(run: &[u16]) -> Round
@@ -47,7 +54,8 @@ fn load(run: &[u16]) -> Round
     }
 }
 
-// The run with a round in it. Its reads change with a read alone.
+// The run with a round in it. Its reads change with a read alone, and are stored with it alone, last: stored with each
+// step they made a whole round a tenth slower.
 fn store(round: Round, run: &mut [u16])
     requires { (6 ≤ length run.old) × ReadsStand run.old round }
     ensures { run.new ≡ stored round run.old }
@@ -57,7 +65,6 @@ fn store(round: Round, run: &mut [u16])
     run[2] = round.c;
     run[3] = round.counts.requests;
     run[5] = round.counts.unresolved;
-    // Stored with a read alone, and last: with each step a round took a tenth longer.
     if let Phase::Read = round.phase {
         run[4] = round.counts.reads;
     }
@@ -69,7 +76,7 @@ pub fn mvb_round_start(params: u16, run: &mut [u16]) -> u32
 {
     match Round::start(params) {
         Ok(Step::Next(round, word)) => {
-            if run.len() < 6 {
+            if is_short(run) {
                 return Refusal::TooShort.code();
             }
             run[4] = round.counts.reads;
@@ -82,7 +89,9 @@ pub fn mvb_round_start(params: u16, run: &mut [u16]) -> u32
 }
 
 // What a round must know of the bytes that came: nothing after a read, whose answer it does not look at; and a word with
-// another F_code than 12 is no good reply, as a collision is none, so that its check sequence need not be computed.
+// another F_code than 12 is no good reply, as a collision is none, so that its check sequence need not be computed: without
+// that a whole round takes a tenth to a half longer. The phase stays a number here and the lengths are tests: with a Phase
+// a step takes a fifth longer, with a match of the bytes a tenth.
 #[tactic(auto, using(crate::proofs::RoundLaws::heard_read, crate::proofs::RoundLaws::heard_none, crate::proofs::RoundLaws::heard_many, crate::proofs::RoundLaws::heard_other, crate::proofs::RoundLaws::heard_line))]
 fn heard(phase: u16, bytes: &[u8]) -> LineAnswer
     ensures { AsHeard phase bytes.now result }
@@ -106,7 +115,7 @@ fn heard(phase: u16, bytes: &[u8]) -> LineAnswer
 pub fn mvb_round_answer(run: &mut [u16], bytes: &[u8]) -> u32
     ensures { (told_code result ≡ round_answer run.old bytes.now) × (run.new ≡ round_run run.old bytes.now) }
 {
-    if run.len() < 6 {
+    if is_short(run) {
         return Refusal::TooShort.code();
     }
     if 1 < run[0] {

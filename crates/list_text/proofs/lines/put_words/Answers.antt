@@ -2,7 +2,7 @@
 -- Assumes nothing.
 use native.Mathlib.Omega.{arith}
 use Rattle.list_text.proofs.WroteLaws.{as_bytes}
-use Rattle.list_text.proofs.LinesLaws.{lines_start, lines_end, place_few, word_small, lines_more}
+use Rattle.list_text.proofs.LinesLaws.{counted, counted_few, lines_start, lines_end, place_few, word_small, lines_more}
 use Rattle.list_text.proofs.lines.put_words.Goals as goal
 
 pub loop-i-init : goal.loop-i-init
@@ -31,3 +31,13 @@ pub returns : goal.returns
 returns c h = let a = c.args in
     let p = a.places.now in
     lines_end a.list.now p.read a.many a.cycle a.sub p.written a.out.now h _ _ _ _ (c.loop-i.invariant h) c.loop-i-test.false
+
+pub returns-then-many-eq0 : goal.returns-then-many-eq0
+returns-then-many-eq0 c h = let a = c.args in
+    let p = a.places.now in
+    lines_end a.list.now p.read a.many a.cycle a.sub p.written a.out.now h a.out.now p.read p.written 0 (lines_start a.list.now p.read a.many a.cycle a.sub p.written a.out.now h) (omega arith)
+
+pub returns-then-out-places : goal.returns-then-out-places
+returns-then-out-places c h = let a = c.args in
+    let p = a.places.now in
+    counted a.list.now p.read a.many a.cycle a.sub p.written a.out.now h c.word_length.result c.word_length.ensures.0 c.if-out-places.true _ _ c.sum_numbers.ensures
