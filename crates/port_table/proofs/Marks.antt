@@ -20,7 +20,7 @@ marked i ps k = sink_bits (drop (max i (64 * k)) (take (64 * k + 64) ps))
 abbrev pub marks : ℕ → List Port → List ℕ
 marks i ps = marked i ps 0 ∷ marked i ps 1 ∷ marked i ps 2 ∷ marked i ps 3 ∷ []
 
-one_most : (b : Bool) → one b ≤ 1
+pub one_most : (b : Bool) → one b ≤ 1
 one_most true = omega arith
 one_most false = omega arith
 

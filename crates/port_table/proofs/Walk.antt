@@ -21,7 +21,7 @@ walked a n at low bytes place (p ∷ ps) =
     cond (leb low p.address && ltb p.f_code 5)
     (walked a n (at + 1) (p.address + 1) (bytes + port_bytes p) (or_here (record { at = at; offset = bytes; port = p }) place a) ps) None
 
-some_none : {A : Type 0} {x : A} → None ≡ Some x → ⊥
+pub some_none : {A : Type 0} {x : A} → None ≡ Some x → ⊥
 some_none e = let z : ◌≡◌ {A = ℕ} 0 1 = cc in omega arith
 
 -- ---- what was found

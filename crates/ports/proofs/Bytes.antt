@@ -20,6 +20,10 @@ front_is k n l out e h = ap₂ ◌++◌ (take-length (take k l) ∙ ap (λ (i : 
 pub front_whole : (src : List ℕ) (n : ℕ) (out : List ℕ) → length src ≡ n → src ++ drop n out ≡ front src out
 front_whole src n out e = ap₂ ◌++◌ (sym (take-length src)) (ap (λ (i : ℕ). drop i out) (sym e))
 
+-- what a copy of a source leaves, for which there is room
+pub front_fits : (src out : List ℕ) → length src ≤ length out → take (length out) src ++ drop (length src) out ≡ front src out
+front_fits src out h = ap (λ (l : List ℕ). l ++ drop (length src) out) (take_all (length out) src h ∙ sym (take-length src))
+
 -- the part of the store from a place on, and the store with another in its place
 abbrev pub from : ℕ → List ℕ → List ℕ
 from o store = take (length store - o) (drop o store)

@@ -3,24 +3,26 @@
 use mathlib.Core.Path.{◌≡◌, refl, sym, ap, ◌∙◌}
 use mathlib.Core.Bool.{Bool, true, false, not, cond}
 use mathlib.Core.List.{List, [], ◌∷◌, ◌++◌}
-use Prim.Native.Nat.{ℕ, zero, suc, ◌+◌, ◌-◌, ◌*◌, ◌≤◌}
+use Prim.Native.Nat.{ℕ, zero, suc, ◌+◌, ◌-◌, ◌*◌, ◌≤◌, ◌<◌}
 use native.Mathlib.Nat.{suc-mul}
 use native.Mathlib.Omega.{arith}
 use borrow.Author.Tests.{eq-eqb, le-ltb}
 use lib.Dec.{eqb, ltb}
 use lib.ListN.{length, take, drop, length-append, length-drop}
 use lib.Seq.{length-take-le}
-use Rattle.refusals.specs.Told.{gives, refusal, refusing}
+use Rattle.std.specs.Prelude.{Result, Ok, Err, MatchResult}
+use Rattle.refusals.specs.Told.{Told, gives, refusal, refusing, told, single}
 use Rattle.refusals.specs.declared.Refusal.{Refusal}
 use Rattle.refusals.specs.Refusals.{number_of}
 use Rattle.refusals.proofs.Apart.{never_both}
 use Rattle.rows.specs.Rows.{data_bits, reserved, data_bytes, blocks, block_bytes, frame_bytes}
 use Rattle.frames.specs.Blocks.{data_in, all_right, right_blocks}
 use Rattle.frames.specs.Slave.{slave_data, slave_frame, slave_read, slave_read_out, slave_write, slave_write_out}
+use Rattle.ports.specs.Lent.{answered, unless_refused}
 use Rattle.ports.specs.Inside.{frame_check, out_check}
 use Rattle.frames.proofs.Order.{read_done}
 use Rattle.rows.proofs.Rows.{full, whole, whole_most}
-use Rattle.frames.proofs.RoundTrip.{slave_accepted}
+use Rattle.frames.proofs.RoundTrip.{slave_accepted, slave_written}
 
 -- no F_code of Process Data is reserved
 pub process_data_lem : (f : ℕ) → f ≤ 4 → reserved f ≡ false
@@ -73,33 +75,19 @@ module _ (f : ℕ) (frame : List ℕ) where
       go true false t x = let e = same_number 2 R (sym t) in (e, ap (λ (n : ℕ). eqb n 0) (sym e), x)
       go false b t x = let e = same_number 1 R (sym t) in (e, ap (λ (n : ℕ). eqb n 0) (sym e), x)
 
-module _ (f : ℕ) (d : List ℕ) (h : f ≤ 4) (l : length d ≡ data_bytes f) where
-  pub write_gives : (n : ℕ) (out : List ℕ) → gives (n ∷ []) ≡ slave_write f d (length out) → (out_check f out ≡ 0) × (n ≡ frame_bytes f) × (slave_write_out f d out ≡ slave_frame f d ++ drop (frame_bytes f) out)
-  unfolding slave_write slave_write_out
-  write_gives n out t = go (ltb (length out) (frame_bytes f)) (t ∙ simp (process_data_lem f h, eq-eqb (length d) (data_bytes f) l)) (simp (process_data_lem f h, eq-eqb (length d) (data_bytes f) l))
-    where
-      go : (b : Bool) → gives (n ∷ []) ≡ cond b (refusal 4) (gives (frame_bytes f ∷ [])) → {x : List ℕ} → x ≡ cond b out (slave_frame f d ++ drop (frame_bytes f) out) → ◌≡◌ {A = ℕ} (cond b 4 0) 0 × (n ≡ frame_bytes f) × (x ≡ slave_frame f d ++ drop (frame_bytes f) out)
-      go true t x = let z : ◌≡◌ {A = ℕ} 0 1 = cc in absurd (omega arith)
-      go false t x = (refl, (let e : n ≡ frame_bytes f = cc in e), x)
-
-  pub write_refuses : (out : List ℕ) (R : Refusal) → refusing R ≡ slave_write f d (length out) → (out_check f out ≡ number_of R) × (eqb (number_of R) 0 ≡ false) × (slave_write_out f d out ≡ out)
-  unfolding slave_write slave_write_out
-  write_refuses out R t = go (ltb (length out) (frame_bytes f)) (t ∙ simp (process_data_lem f h, eq-eqb (length d) (data_bytes f) l)) (simp (process_data_lem f h, eq-eqb (length d) (data_bytes f) l))
-    where
-      go : (b : Bool) → refusing R ≡ cond b (refusal 4) (gives (frame_bytes f ∷ [])) → {x : List ℕ} → x ≡ cond b out (slave_frame f d ++ drop (frame_bytes f) out) → (cond b 4 0 ≡ number_of R) × (eqb (number_of R) 0 ≡ false) × (x ≡ out)
-      go true t x = let e = same_number 4 R (sym t) in (e, ap (λ (n : ℕ). eqb n 0) (sym e), x)
-      go false t x = absurd (never_both (frame_bytes f ∷ []) R (sym t))
+-- what the writer answers and leaves, of data that has a port's bytes
+pub written : (f : ℕ) (d out : List ℕ) → f ≤ 4 → length d ≡ data_bytes f
+    → (slave_write f d (length out) ≡ answered (out_check f out) (frame_bytes f ∷ []))
+    × (slave_write_out f d out ≡ unless_refused (out_check f out) (slave_frame f d ++ drop (frame_bytes f) out) out)
+unfolding slave_write slave_write_out
+written f d out h l = go (ltb (length out) (frame_bytes f)) (simp (process_data_lem f h, eq-eqb (length d) (data_bytes f) l)) (simp (process_data_lem f h, eq-eqb (length d) (data_bytes f) l))
+  where
+    go : (b : Bool) → {t : Told} → t ≡ cond b (refusal 4) (gives (frame_bytes f ∷ [])) → {x : List ℕ} → x ≡ cond b out (slave_frame f d ++ drop (frame_bytes f) out)
+        → (t ≡ answered (cond b 4 0) (frame_bytes f ∷ [])) × (x ≡ unless_refused (cond b 4 0) (slave_frame f d ++ drop (frame_bytes f) out) out)
+    go true t x = (t, x)
+    go false t x = (t, x)
 
 -- a frame that was written has at most 36 bytes
-pub written_small : (f : ℕ) (d : List ℕ) (n room : ℕ) → gives (n ∷ []) ≡ slave_write f d room → n ≤ 36
-unfolding slave_write
-written_small f d n room t = go (reserved f) (eqb (length d) (data_bytes f)) (ltb room (frame_bytes f)) t
-  where
-    no : (k : ℕ) → gives (n ∷ []) ≡ refusal k → n ≤ 36
-    no k t = let z : ◌≡◌ {A = ℕ} 0 1 = cc in absurd (omega arith)
-
-    go : (a b c : Bool) → gives (n ∷ []) ≡ cond a (refusal 3) (cond (not b) (refusal 1) (cond c (refusal 4) (gives (frame_bytes f ∷ [])))) → n ≤ 36
-    go true b c t = no 3 t
-    go false false c t = no 1 t
-    go false true true t = no 4 t
-    go false true false t = let e : n ≡ frame_bytes f = cc in omega (arith, whole_most f)
+pub written_small : (f : ℕ) (d : List ℕ) (room : ℕ) (r : Result ℕ Refusal) → told single r ≡ slave_write f d room → MatchResult r (λ n. n < 65536) (λ _. Unit {0})
+written_small f d room (Ok n) t = let p = slave_written f d room n (sym t) in omega (arith, p.3, whole_most f)
+written_small f d room (Err r) t = tt

@@ -2,10 +2,11 @@
 -- Assumes nothing.
 use Rattle.std.proofs.Common.{ℕ, ◌+◌, ◌-◌, ◌<◌, ◌≤◌, ◌≡◌, Bool, false, not, cond, refl, sym, ap, ap₂, subst, ◌∙◌, arith, List, [], ◌∷◌, ◌++◌, length, get_or, set, take, drop, eqb, ltb, Some}
 use borrow.Author.Tests.{eq-eqb, ne_eqb, lt-ltb, le-ltb}
+use lib.Seq.{take_all}
 use Rattle.refusals.specs.Told.{Told, gives, refusal, refusing}
-use Rattle.rows.specs.Rows.{frame_bytes}
+use Rattle.rows.specs.Rows.{data_bytes, frame_bytes}
 use Rattle.frames.specs.Words.{f_code_of, address}
-use Rattle.frames.specs.Slave.{slave_data, slave_frame}
+use Rattle.frames.specs.Slave.{slave_data, slave_frame, slave_write, slave_write_out}
 use Rattle.port_table.specs.declared.Port.{Port}
 use Rattle.port_table.specs.declared.Place.{Place}
 use Rattle.port_table.specs.declared.Seen.{Seen}
@@ -22,6 +23,7 @@ use Rattle.refusals.specs.declared.Refusal.{Refusal}
 use Rattle.ports.proofs.Outcomes.{accepted, refusal_keeps}
 use Rattle.ports.proofs.Bytes.{part_length}
 use Rattle.ports.proofs.Found.{shown_at}
+use Rattle.ports.proofs.Frames.{written}
 
 -- ---- answers
 
@@ -105,17 +107,19 @@ module _ (ps : List Port) (store : List ℕ) (word : ℕ) (out : List ℕ) (s : 
       let x : p.port ≡ port_of (address word) ps = ap (λ (y : Place). y.port) q.1 in
       simp (g.0, le-ltb (length store) (table_bytes ps) (subst (λ (t : Seen). t.bytes ≤ length store) g.1 h1), le-ltb 4 (f_code_of word) h3, q.0, eq-eqb (port_of (address word) ps).f_code (f_code_of word) (ap (λ (y : Port). y.f_code) (sym x) ∙ h5), eq-eqb (port_of (address word) ps).sink 0 (ap (λ (y : Port). y.sink) (sym x) ∙ h6))
 
-  pub answer_done : (size : ℕ) → size ≡ port_bytes p.port → (t : Told) → t ≡ answered (out_check (f_code_of word) out) (frame_bytes (f_code_of word) ∷ [])
-      → (out' : List ℕ) → out' ≡ unless_refused (out_check (f_code_of word) out) (slave_frame (f_code_of word) (take (p.offset + size - p.offset) (drop p.offset store)) ++ drop (frame_bytes (f_code_of word)) out) out
+  pub answer_done : (size : ℕ) → size ≡ port_bytes p.port → (t : Told) → t ≡ slave_write (f_code_of word) (take (p.offset + size - p.offset) (drop p.offset store)) (length out)
+      → (out' : List ℕ) → out' ≡ slave_write_out (f_code_of word) (take (p.offset + size - p.offset) (drop p.offset store)) out
       → (t ≡ answer ps store word out) × (out' ≡ answer_out ps store word out)
   unfolding answer answer_out port_data
   answer_done size es t et out' eo =
-      let q = (shown_at s p (address word) ps e at).1 in
-      let z : p.offset + size - p.offset ≡ port_bytes p.port = omega arith in (
-        et ∙ ap (λ (n : ℕ). answered n (frame_bytes (f_code_of word) ∷ [])) (sym answer_on),
-        eo ∙ ap (λ (n : ℕ). unless_refused n (slave_frame (f_code_of word) (take (p.offset + size - p.offset) (drop p.offset store)) ++ drop (frame_bytes (f_code_of word)) out) out) (sym answer_on)
+      let q = shown_at s p (address word) ps e at in
+      let z : p.offset + size - p.offset ≡ port_bytes p.port = omega arith in
+      let l : length (take (p.offset + size - p.offset) (drop p.offset store)) ≡ data_bytes (f_code_of word) = part_length p.offset size store (omega (arith, q.3, es)) ∙ es ∙ ap data_bytes h5 in
+      let w = written (f_code_of word) (take (p.offset + size - p.offset) (drop p.offset store)) out h3 l in (
+        et ∙ w.0 ∙ ap (λ (n : ℕ). answered n (frame_bytes (f_code_of word) ∷ [])) (sym answer_on),
+        eo ∙ w.1 ∙ ap (λ (n : ℕ). unless_refused n (slave_frame (f_code_of word) (take (p.offset + size - p.offset) (drop p.offset store)) ++ drop (frame_bytes (f_code_of word)) out) out) (sym answer_on)
             ∙ ap (λ (d : List ℕ). unless_refused (answer_refusal ps store word out) (slave_frame (f_code_of word) d ++ drop (frame_bytes (f_code_of word)) out) out)
-            (ap (λ (n : ℕ). take n (drop p.offset store)) z ∙ ap (λ (x : Place). take (port_bytes x.port) (drop x.offset store)) q),
+            (ap (λ (n : ℕ). take n (drop p.offset store)) z ∙ ap (λ (x : Place). take (port_bytes x.port) (drop x.offset store)) q.1),
       )
 
 -- ---- a read
@@ -141,7 +145,7 @@ module _ (ps : List Port) (store ages : List ℕ) (a : ℕ) (out : List ℕ) (ag
     pub read_4 : length out < size → (refusal 4 ≡ read ps store ages a out) × (out ≡ read_out ps store ages a out) × (age ≡ read_age ps store ages a out age)
     read_4 h = read_no 4 (read_on ∙ simp (ne_eqb p.port.sink 0 h6, lt-ltb (length out) (port_bytes p.port) (subst (λ (n : ℕ). length out < n) es h))) refl
 
-    pub read_done : size ≤ length out → (out' : List ℕ) → out' ≡ take (p.offset + size - p.offset) (drop p.offset store) ++ drop (length (take (p.offset + size - p.offset) (drop p.offset store))) out
+    pub read_done : size ≤ length out → (out' : List ℕ) → out' ≡ take (length out) (take (p.offset + size - p.offset) (drop p.offset store)) ++ drop (length (take (p.offset + size - p.offset) (drop p.offset store))) out
         → (gives (size ∷ []) ≡ read ps store ages a out) × (out' ≡ read_out ps store ages a out) × (get_or ages p.at 0 ≡ read_age ps store ages a out age)
     unfolding read read_out read_age port_data
     read_done room out' eo =
@@ -150,7 +154,8 @@ module _ (ps : List Port) (store ages : List ℕ) (a : ℕ) (out : List ℕ) (ag
         let z : p.offset + size - p.offset ≡ port_bytes p.port = omega arith in
         let l : length (take (p.offset + size - p.offset) (drop p.offset store)) ≡ port_bytes p.port = part_length p.offset size store (omega (arith, q.3, es)) ∙ es in (
           ap (λ (n : ℕ). gives (n ∷ [])) (es ∙ ap (λ (x : Place). port_bytes x.port) q.1) ∙ answered_yes k _,
-          eo ∙ ap₂ (λ (m n : ℕ). take m (drop p.offset store) ++ drop n out) z l ∙ ap (λ (x : Place). take (port_bytes x.port) (drop x.offset store) ++ drop (port_bytes x.port) out) q.1 ∙ changed k _ out,
+          eo ∙ ap (λ (d : List ℕ). d ++ drop (length (take (p.offset + size - p.offset) (drop p.offset store))) out) (take_all (length out) (take (p.offset + size - p.offset) (drop p.offset store)) (omega (arith, l, es)))
+          ∙ ap₂ (λ (m n : ℕ). take m (drop p.offset store) ++ drop n out) z l ∙ ap (λ (x : Place). take (port_bytes x.port) (drop x.offset store) ++ drop (port_bytes x.port) out) q.1 ∙ changed k _ out,
           ap (λ (x : Place). get_or ages x.at 0) q.1 ∙ changed k _ age,
         )
 

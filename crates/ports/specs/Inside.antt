@@ -1,6 +1,6 @@
 -- What the functions inside the crate promise each other.
 -- Assumes nothing.
-use Rattle.std.specs.Prelude.{not, cond, List, [], ◌∷◌, ℕ, eqb, ltb, length}
+use Rattle.std.specs.Prelude.{Bool, not, cond, List, [], ◌∷◌, ℕ, ◌/◌, ◌%◌, ◌^◌, eqb, ltb, length, get_or}
 use Rattle.rows.specs.Rows.{blocks, block_bytes, frame_bytes}
 use Rattle.frames.specs.Blocks.{all_right}
 
@@ -15,3 +15,7 @@ frame_check f frame = cond (not (eqb (length frame) (frame_bytes f))) 1 (cond (n
 -- "4 for the output" of a frame
 abbrev pub out_check : ℕ → List ℕ → ℕ
 out_check f out = cond (ltb (length out) (frame_bytes f)) 4 0
+
+-- whether the goodness test shows record i as a sink, by its bit in the parts of 64 records
+abbrev pub is_marked : List ℕ → ℕ → Bool
+is_marked sinks i = eqb (get_or sinks (i / 64) 0 / 2 ^ (i % 64) % 2) 1

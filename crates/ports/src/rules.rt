@@ -1,15 +1,15 @@
 // The rules of the calls that name a port.
-ghost use Rattle.std.specs.Prelude.{◌≡◌, [], ◌∷◌, ◌++◌, ◌+◌, ◌<◌, ◌≤◌, length, drop, MatchResult};
+ghost use Rattle.std.specs.Prelude.{◌≡◌, [], ◌∷◌, ◌+◌, ◌<◌, ◌≤◌, length, MatchResult};
 ghost use Rattle.refusals.specs.Told.{told, single};
-ghost use Rattle.rows.specs.Rows.{data_bytes, frame_bytes};
-ghost use Rattle.frames.specs.Slave.{slave_data, slave_frame};
+ghost use Rattle.rows.specs.Rows.{data_bytes};
+ghost use Rattle.frames.specs.Slave.{slave_data};
 ghost use Rattle.port_table.specs.Table.{port_bytes};
 ghost use Rattle.ports.specs.Lent.{answered, unless_refused, replaced};
 ghost use Rattle.ports.specs.Arriving.{arrive, arrive_store, arrive_ages};
 ghost use Rattle.ports.specs.Answering.{answer, answer_out};
 ghost use Rattle.ports.specs.Reading.{read, read_out, read_age};
 ghost use Rattle.ports.specs.Filling.{fill, fill_store};
-ghost use Rattle.ports.specs.Inside.{done, frame_check, out_check};
+ghost use Rattle.ports.specs.Inside.{done, frame_check};
 
 use port_table::Port;
 use refusals::Refusal;
@@ -39,15 +39,6 @@ fn receive(f_code: u8, frame: &[u8], store: &mut [u8], offset: usize) -> Result<
         Ok(_) => Ok(()),
         Err(refusal) => Err(refusal),
     }
-}
-
-// 4 for the output; else the frame of Process Data goes to its start.
-fn send(f_code: u8, data: &[u8], out: &mut [u8]) -> Result<usize, Refusal>
-    requires { (f_code ≤ 4) × (length «data».now ≡ data_bytes f_code) }
-    ensures small { MatchResult result (λ n. n < 65536) (λ _. Unit {0}) }
-    ensures answers { (told single result ≡ answered (out_check f_code out.old) (frame_bytes f_code ∷ [])) × (out.new ≡ unless_refused (out_check f_code out.old) (slave_frame f_code «data».now ++ drop (frame_bytes f_code) out.old) out.old) }
-{
-    frames::slave_write(f_code, data, out)
 }
 
 // 13; 4 for store, then ages; 14; 15; 16; 17; 1 and 2 of the frame. The store has room from the port on.
@@ -123,7 +114,7 @@ pub(crate) fn answer(
         return Err(Refusal::WrongDirection);
     }
     let end = place.offset + size(place.port);
-    send(f_code, &store[place.offset..end], out)
+    frames::slave_write(f_code, &store[place.offset..end], out)
 }
 
 // 13; 4 for store, then ages; 15; 17; 4 for the output.

@@ -1,45 +1,37 @@
 // A tick.
-ghost use Rattle.std.specs.Prelude.{◌≡◌, ◌≤◌, cond, length};
+ghost use Rattle.std.specs.Prelude.{◌≡◌, ◌<◌, ◌≤◌, ◌+◌, ◌*◌, cond, length};
 ghost use Rattle.refusals.specs.Told.{told};
-ghost use Rattle.port_table.specs.Table.{is_sink};
-ghost use Rattle.ports.specs.Ticking.{older, aged, tick, tick_ages};
-ghost use Rattle.ports.specs.Inside.{done};
+ghost use Rattle.ports.specs.Ticking.{older, tick, tick_ages};
+ghost use Rattle.ports.specs.Inside.{done, is_marked};
 
-use port_table::Port;
+use port_table::{Port, Tested};
 use refusals::Refusal;
 
-// The age of a port's data after a tick: a source's stays.
-fn older(port: Port, age: u16) -> u16
-    ensures { result ≡ cond (is_sink port) (older age) age }
+// The age of record i's data after a tick: a source's stays.
+fn older(tested: &Tested, i: usize, age: u16) -> u16
+    requires { i < 256 }
+    ensures { result ≡ cond (is_marked tested.now.sinks i) (older age) age }
 {
-    if port.sink == 0 || age == 65535 {
+    let mark = (tested.sinks[i / 64] >> (i % 64)) % 2;
+    if mark != 1 || age == 65535 {
         return age;
     }
     age + 1
 }
 
-// The ages of all records.
-#[tactic(auto, unfolding(crate::specs::Ticking::aged))]
-fn age_all(table: &[Port], ages: &mut [u16])
-    requires { length table.now ≤ length ages.old }
-    ensures { ages.new ≡ aged table.now ages.old }
-{
-    for (i, port) in table.iter().enumerate() {
-        ages[i] = older(*port, ages[i]);
-    }
-}
-
-// 13; 4 for ages. No address is looked for.
-#[tactic(auto, using(port_table::proofs::Walk::shown_good, port_table::proofs::Walk::shown_bad), unfolding(crate::specs::Ticking::tick, crate::specs::Ticking::tick_ages, crate::specs::Ticking::tick_refusal))]
+// 13; 4 for ages.
+#[tactic(auto, using(port_table::proofs::Told::tested_good, port_table::proofs::Told::tested_bad, port_table::proofs::Told::tested_few), unfolding(crate::specs::Ticking::tick, crate::specs::Ticking::tick_ages, crate::specs::Ticking::tick_refusal))]
 pub(crate) fn tick(table: &[Port], ages: &mut [u16]) -> Result<(), Refusal>
     ensures { (told done result ≡ tick table.now ages.old) × (ages.new ≡ tick_ages table.now ages.old) }
 {
-    let Some(seen) = port_table::look(table, 0) else {
+    let Some(tested) = port_table::test_table(table) else {
         return Err(Refusal::TableNotGood);
     };
-    if ages.len() < seen.count {
+    if ages.len() < tested.count {
         return Err(Refusal::TooShort);
     }
-    age_all(table, ages);
+    for i in 0..tested.count {
+        ages[i] = older(&tested, i, ages[i]);
+    }
     Ok(())
 }
