@@ -13,12 +13,6 @@ use rounds::{Counts, Phase, Round, Step};
 // What a round's end is to C.
 const END: u32 = 131072;
 
-fn wide(word: u16) -> u32
-    ensures { result ≡ word }
-{
-    word as u32
-}
-
 fn phase_of(number: u16) -> Phase
     ensures { result ≡ phase_of number }
 {
