@@ -11,7 +11,7 @@ use Rattle.port_table.specs.Table.{good, no_port, is_sink}
 use Rattle.port_table.specs.Tested.{sink_bits, sinks_part, sinks_in, good_tested, tested_of}
 use Rattle.port_table.proofs.Tables.{good_split}
 use Rattle.port_table.proofs.Walk.{some_none}
-use Rattle.port_table.proofs.Marks.{one_most}
+use Rattle.port_table.proofs.Back.{one_most}
 
 -- nothing of a table that is not good
 pub tested_bad : (ps : List Port) → None ≡ tested_of ps → good ps ≡ false

@@ -177,7 +177,3 @@ shown_good s a ps = by (good ps)
     by : (b : Bool) → Some s ≡ cond b (Some (good_seen a ps)) None → (b ≡ true) × (s ≡ good_seen a ps)
     by true e = (refl, (let z : s ≡ good_seen a ps = cc in z))
     by false e = absurd (some_none (sym e))
-
--- which has at most 256 records
-pub shown_few : (s : Seen) (a : ℕ) (ps : List Port) → Some s ≡ seen_of a ps → length ps ≤ 256
-shown_few s a ps e = (good_split ps (shown_good s a ps e).0).0
