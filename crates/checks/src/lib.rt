@@ -183,7 +183,8 @@ fn plain_by_bytes(block: &[u8]) -> u8
     rest ^ ((rest ^ ones).count_ones() % 2) as u8
 }
 
-// The check bits of a block. Those of a frame's blocks, of two, four or eight bytes, are the sum of what each byte leaves.
+// The check bits of a block. Those of a frame's blocks, of two, four or eight bytes, are the sum of what each byte leaves,
+// written out: a loop would count the bytes behind each down beside it.
 fn plain_of(block: &[u8]) -> u8
     ensures { result ≡ number (plain (bits_of block.now)) }
 {

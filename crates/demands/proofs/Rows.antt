@@ -76,21 +76,21 @@ reader_is : {r s : Reader} → r.src ≡ s.src → r.at ≡ s.at → r ≡ s
 reader_is e f i = record { src = e i; at = f i }
 
 -- what a reader's next number tells is a refusal, after which it stands where it stood, or no refusal
-next_refuses : {X : Type 0} (back : Reader → X) (r : Result ℕ Refusal) (old new : Reader) → told (value_then new.at) r ≡ number_there old.src.now old.at → new.src ≡ old.src
+read_refuses : {X : Type 0} (back : Reader → X) (r : Result ℕ Refusal) (old new : Reader) → told (value_then new.at) r ≡ number_there old.src.now old.at → new.src ≡ old.src
     → OnErr r (new.at ≡ old.at) → Refusing (5 ∷ []) (told single r) (back new ≡ back old)
-next_refuses back (Ok value) old new c b e = answers _
-next_refuses back (Err refusal) old new c b e = told_so c (λ u. ap back (reader_is b e)) (file.number old.src.now old.at)
+read_refuses back (Ok value) old new c b e = answers _
+read_refuses back (Err refusal) old new c b e = told_so c (λ u. ap back (reader_is b e)) (file.number old.src.now old.at)
 
 -- what is told of a next number tells answers apart, and readers afterwards
-next_is : (r s : Result ℕ Refusal) (old new new' : Reader) → told (value_then new.at) r ≡ told (value_then new'.at) s → new.src ≡ old.src → new'.src ≡ old.src
+read_is : (r s : Result ℕ Refusal) (old new new' : Reader) → told (value_then new.at) r ≡ told (value_then new'.at) s → new.src ≡ old.src → new'.src ≡ old.src
     → OnErr r (new.at ≡ old.at) → OnErr s (new'.at ≡ old.at) → (r ≡ s) × (new ≡ new')
-next_is (Ok v) (Ok w) old new new' t b b' e e' =
+read_is (Ok v) (Ok w) old new new' t b b' e e' =
     let same : v ≡ w = cc in
     let place : new.at ≡ new'.at = cc in
     (ap Ok same, reader_is (b ∙ sym b') place)
-next_is (Ok v) (Err m) old new new' t b b' e e' = absurd (never_both (value_then new.at v) m t)
-next_is (Err m) (Ok w) old new new' t b b' e e' = absurd (never_both (value_then new'.at w) m (sym t))
-next_is (Err m) (Err n) old new new' t b b' e e' = (ap Err (refusals_apart m n t), reader_is (b ∙ sym b') (e ∙ sym e'))
+read_is (Ok v) (Err m) old new new' t b b' e e' = absurd (never_both (value_then new.at v) m t)
+read_is (Err m) (Ok w) old new new' t b b' e e' = absurd (never_both (value_then new'.at w) m (sym t))
+read_is (Err m) (Err n) old new new' t b b' e e' = (ap Err (refusals_apart m n t), reader_is (b ∙ sym b') (e ∙ sym e'))
 
 sum_is : {r s : Summed} → r.total ≡ s.total → r.next ≡ s.next → r ≡ s
 sum_is e f i = record { total = e i; next = f i }
@@ -277,13 +277,21 @@ reader_new = record {
 pub reader_next : Shown table.reader_next
 reader_next = record {
   promised = λ M 𝓤 𝓛 𝓜 𝓡. numbers.Reader.next.Met.met 𝓤 𝓛 𝓜 (within 𝓤 𝓛.H 𝓜 𝓡 program) has.numbers_Reader_next;
+  says = said table.reader_next _ (λ M 𝓤 𝓛 mem run κs a. refl);
+  refusing = λ κs a r ws c. told_so c (λ u. refl) (file.number a.0.src.now a.0.at);
+  one = λ κs a r s ws vs c d. (numbers_apart r s (c ∙ sym d), refl);
+}
+
+pub reader_read : Shown table.reader_read
+reader_read = record {
+  promised = λ M 𝓤 𝓛 𝓜 𝓡. numbers.Reader.read.Met.met 𝓤 𝓛 𝓜 (within 𝓤 𝓛.H 𝓜 𝓡 program) has.numbers_Reader_read;
   says = record {
     Claim = _;
     free = λ M 𝓤 𝓛 mem run κs a. (tt, id⊢ 𝓤 (emp 𝓤));
     claims = λ M 𝓤 𝓛 mem run κs a g r e. two 𝓤 (fact 𝓤 _) _ _ _ (id⊢ 𝓤 (fact 𝓤 _)) (two 𝓤 (fact 𝓤 _) _ _ _ (id⊢ 𝓤 (fact 𝓤 _)) (two 𝓤 (fact 𝓤 _) (fact 𝓤 _) _ _ (id⊢ 𝓤 (fact 𝓤 _)) (id⊢ 𝓤 (fact 𝓤 _))));
   };
-  refusing = λ κs a r ws c. next_refuses (λ (x : Reader). (at_last a.0 x, tt)) r a.0.now ws.0 c.0 c.1.0 c.1.1.0;
-  one = λ κs a r s ws vs c d. let e = next_is r s a.0.now ws.0 vs.0 (c.0 ∙ sym d.0) c.1.0 d.1.0 c.1.1.0 d.1.1.0 in (e.0, ap (λ (x : Reader). (x, tt)) e.1);
+  refusing = λ κs a r ws c. read_refuses (λ (x : Reader). (at_last a.0 x, tt)) r a.0.now ws.0 c.0 c.1.0 c.1.1.0;
+  one = λ κs a r s ws vs c d. let e = read_is r s a.0.now ws.0 vs.0 (c.0 ∙ sym d.0) c.1.0 d.1.0 c.1.1.0 d.1.1.0 in (e.0, ap (λ (x : Reader). (x, tt)) e.1);
 }
 
 pub read_number : Shown table.read_number
@@ -521,4 +529,4 @@ mvb_search = record {
 -- all of them, in the order of the table
 pub rows : EachShown table.entry_points
 rows =
-    (refusal_number, (refusal_code, (check_of, (check_of_word, (row_of, (copy_front, (master_read, (master_write, (slave_read, (slave_write, (line_answer, (mvb_check_of, (mvb_master_read, (mvb_master_write, (mvb_slave_read, (mvb_slave_write, (telegram_bits, (guard, (mvb_telegram_bits, (mvb_guard, (number_at, (reader_new, (reader_next, (read_number, (read_numbers, (sum_numbers, (cycles_of, (periods_of, (list_check, (basic_period, (list_text, (mvb_list_check, (mvb_basic_period, (mvb_list_text, (look, (test_table, (mvb_arrive, (mvb_answer, (mvb_read, (mvb_fill, (mvb_tick, (bound, (is_group, (in_group, (round_start, (round_answer, (search_set, (mvb_round_start, (mvb_round_answer, (mvb_search, tt))))))))))))))))))))))))))))))))))))))))))))))))))
+    (refusal_number, (refusal_code, (check_of, (check_of_word, (row_of, (copy_front, (master_read, (master_write, (slave_read, (slave_write, (line_answer, (mvb_check_of, (mvb_master_read, (mvb_master_write, (mvb_slave_read, (mvb_slave_write, (telegram_bits, (guard, (mvb_telegram_bits, (mvb_guard, (number_at, (reader_new, (reader_next, (reader_read, (read_number, (read_numbers, (sum_numbers, (cycles_of, (periods_of, (list_check, (basic_period, (list_text, (mvb_list_check, (mvb_basic_period, (mvb_list_text, (look, (test_table, (mvb_arrive, (mvb_answer, (mvb_read, (mvb_fill, (mvb_tick, (bound, (is_group, (in_group, (round_start, (round_answer, (search_set, (mvb_round_start, (mvb_round_answer, (mvb_search, tt)))))))))))))))))))))))))))))))))))))))))))))))))))

@@ -176,9 +176,13 @@ number_at = record { ended = numbers.number_at.ended; routine = program numbers-
 abbrev pub reader_new : EntryPoint
 reader_new = record { ended = numbers.Reader.new.ended; routine = program numbers-run.Reader.new.Symbol.name; promise = numbers.Reader.new.clauses; refuses = []; told = λ κs r. value r.at; passed_back = λ κs e. e }
 
--- its next number
+-- its next number, and the place after it
 abbrev pub reader_next : EntryPoint
-reader_next = record { ended = numbers.Reader.next.ended; routine = program numbers-run.Reader.next.Symbol.name; promise = numbers.Reader.next.clauses; refuses = 5 ∷ []; told = λ κs r. told single r; passed_back = λ κs e. e }
+reader_next = record { ended = numbers.Reader.next.ended; routine = program numbers-run.Reader.next.Symbol.name; promise = numbers.Reader.next.clauses; refuses = 5 ∷ []; told = λ κs r. told value_and_place r; passed_back = λ κs e. e }
+
+-- a number read, after which the reader stands
+abbrev pub reader_read : EntryPoint
+reader_read = record { ended = numbers.Reader.read.ended; routine = program numbers-run.Reader.read.Symbol.name; promise = numbers.Reader.read.clauses; refuses = 5 ∷ []; told = λ κs r. told single r; passed_back = λ κs e. e }
 
 -- a number through a reader
 abbrev pub read_number : EntryPoint
@@ -305,4 +309,4 @@ mvb_search = record { ended = mvb.round_calls.mvb_search.ended; routine = progra
 -- all of them
 abbrev pub entry_points : List EntryPoint
 entry_points =
-    refusal_number ∷ refusal_code ∷ check_of ∷ check_of_word ∷ row_of ∷ copy_front ∷ master_read ∷ master_write ∷ slave_read ∷ slave_write ∷ line_answer ∷ mvb_check_of ∷ mvb_master_read ∷ mvb_master_write ∷ mvb_slave_read ∷ mvb_slave_write ∷ telegram_bits ∷ guard ∷ mvb_telegram_bits ∷ mvb_guard ∷ number_at ∷ reader_new ∷ reader_next ∷ read_number ∷ read_numbers ∷ sum_numbers ∷ cycles_of ∷ periods_of ∷ list_check ∷ basic_period ∷ list_text ∷ mvb_list_check ∷ mvb_basic_period ∷ mvb_list_text ∷ look ∷ test_table ∷ mvb_arrive ∷ mvb_answer ∷ mvb_read ∷ mvb_fill ∷ mvb_tick ∷ bound ∷ is_group ∷ in_group ∷ round_start ∷ round_answer ∷ search_set ∷ mvb_round_start ∷ mvb_round_answer ∷ mvb_search ∷ []
+    refusal_number ∷ refusal_code ∷ check_of ∷ check_of_word ∷ row_of ∷ copy_front ∷ master_read ∷ master_write ∷ slave_read ∷ slave_write ∷ line_answer ∷ mvb_check_of ∷ mvb_master_read ∷ mvb_master_write ∷ mvb_slave_read ∷ mvb_slave_write ∷ telegram_bits ∷ guard ∷ mvb_telegram_bits ∷ mvb_guard ∷ number_at ∷ reader_new ∷ reader_next ∷ reader_read ∷ read_number ∷ read_numbers ∷ sum_numbers ∷ cycles_of ∷ periods_of ∷ list_check ∷ basic_period ∷ list_text ∷ mvb_list_check ∷ mvb_basic_period ∷ mvb_list_text ∷ look ∷ test_table ∷ mvb_arrive ∷ mvb_answer ∷ mvb_read ∷ mvb_fill ∷ mvb_tick ∷ bound ∷ is_group ∷ in_group ∷ round_start ∷ round_answer ∷ search_set ∷ mvb_round_start ∷ mvb_round_answer ∷ mvb_search ∷ []

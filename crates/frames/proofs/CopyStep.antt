@@ -14,14 +14,6 @@ copy_step (x ∷ xs) [] i h k = absurd (omega arith)
 copy_step (x ∷ xs) (y ∷ ys) zero h k = refl
 copy_step (x ∷ xs) (y ∷ ys) (suc i) h k = ap (λ (l : List ℕ). x ∷ l) (copy_step xs ys i (omega arith) (omega arith))
 
--- all are copied
-pub copy_all : (xs ys : List ℕ) (i : ℕ) → i ≡ length xs → take i xs ++ drop i ys ≡ xs ++ drop (length xs) ys
-copy_all xs ys i e = ap₂ (λ (k l : List ℕ). k ++ l) (ap (λ (n : ℕ). take n xs) e ∙ take-length xs) (ap (λ (n : ℕ). drop n ys) e)
-
--- the same at the next place, however it is computed
-pub copy_next : (xs ys : List ℕ) (i n : ℕ) → n ≡ i + 1 → i < length xs → length xs ≤ length ys → set (take i xs ++ drop i ys) i (get_or xs i 0) ≡ take n xs ++ drop n ys
-copy_next xs ys i n e h k = let q : suc i ≡ n = omega arith in copy_step xs ys i h k ∙ ap (λ (j : ℕ). take j xs ++ drop j ys) q
-
 -- the bytes at the first n places, one after the other
 abbrev pub sets : ℕ → List ℕ → List ℕ → List ℕ
 sets zero xs ys = ys

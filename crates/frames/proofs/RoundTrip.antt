@@ -20,7 +20,7 @@ use Rattle.frames.specs.Blocks.{framed, data_in, right_blocks}
 use Rattle.frames.specs.Master.{master_frame, master_read, master_write, master_write_out}
 use Rattle.frames.specs.Slave.{slave_frame, slave_data, slave_read, slave_read_out, slave_write, slave_write_out}
 use Rattle.rows.proofs.Rows.{full, whole}
-use Rattle.frames.proofs.Turns.{right_split}
+use Rattle.frames.proofs.Turns.{right_split, data_length, framed_length}
 use Rattle.frames.proofs.Order.{read_done, write_done}
 
 -- ---- blocks
@@ -47,14 +47,6 @@ one_more k n d e =
     let l : length (drop n d) ≡ length d - n = length-drop n d in
     (length-take-le n d (omega arith), omega arith)
 
-framed_length : (k n : ℕ) (d : List ℕ) → length d ≡ k * n → length (framed k n d) ≡ k * (n + 1)
-framed_length zero n d e = omega arith
-framed_length (suc k) n d e =
-    let p = one_more k n d e in
-    let ih : length (framed k n (drop n d)) ≡ k * (n + 1) = framed_length k n (drop n d) p.1 in
-    let a : length (take n d ++ check_of (take n d) ∷ framed k n (drop n d)) ≡ length (take n d) + suc (length (framed k n (drop n d))) = length-append (take n d) (check_of (take n d) ∷ framed k n (drop n d)) in
-    omega (arith, suc-mul k (n + 1), p.0)
-
 framed_right : (k n : ℕ) (d : List ℕ) → length d ≡ k * n → right_blocks k n (framed k n d) ≡ k
 framed_right zero n d e = refl
 framed_right (suc k) n d e =
@@ -73,16 +65,6 @@ framed_data (suc k) n d e =
     let y = framed k n (drop n d) in
     ap₂ ◌++◌ (take_block b (check_of b) y n p.0) (ap (data_in k n) (drop_block b (check_of b) y n p.0) ∙ framed_data k n (drop n d) p.1)
     ∙ take-append-drop n d
-
-data_length : (k n : ℕ) (w : List ℕ) → length w ≡ k * (n + 1) → length (data_in k n w) ≡ k * n
-data_length zero n w e = omega arith
-data_length (suc k) n w e =
-    let m : suc k * (n + 1) ≡ k * (n + 1) + (n + 1) = suc-mul k (n + 1) in
-    let lt : length (take n w) ≡ n = length-take-le n w (omega arith) in
-    let ld : length (drop (n + 1) w) ≡ length w - (n + 1) = length-drop (n + 1) w in
-    let ih : length (data_in k n (drop (n + 1) w)) ≡ k * n = data_length k n (drop (n + 1) w) (omega arith) in
-    let a : length (take n w ++ data_in k n (drop (n + 1) w)) ≡ length (take n w) + length (data_in k n (drop (n + 1) w)) = length-append (take n w) (data_in k n (drop (n + 1) w)) in
-    omega (arith, suc-mul k n)
 
 right_framed : (k n : ℕ) (w : List ℕ) → length w ≡ k * (n + 1) → right_blocks k n w ≡ k → framed k n (data_in k n w) ≡ w
 right_framed zero n w e r = empty w (let z : length w ≡ 0 = omega arith in z)
@@ -133,7 +115,7 @@ slave_written f d room n h =
 
 pub slave_frame_length : (f : ℕ) (d : List ℕ) → length d ≡ data_bytes f → length (slave_frame f d) ≡ frame_bytes f
 unfolding slave_frame
-slave_frame_length f d e = framed_length (blocks f) (block_bytes f) d (e ∙ sym (full f)) ∙ whole f
+slave_frame_length f d e = framed_length (blocks f) (block_bytes f) d (let l : blocks f * block_bytes f ≤ length d = omega (arith, e, full f) in l) ∙ whole f
 
 -- what is written
 slave_out : (f : ℕ) (d out : List ℕ) → reserved f ≡ false → length d ≡ data_bytes f → frame_bytes f ≤ length out
@@ -171,7 +153,7 @@ pub slave_accepted_is_written : (f n : ℕ) (w out back : List ℕ) → slave_re
 unfolding slave_frame slave_data
 slave_accepted_is_written f n w out back h r =
     let p = slave_accepted f w (length out) n h in
-    let l : length (slave_data f w) ≡ data_bytes f = data_length (blocks f) (block_bytes f) w (p.1 ∙ sym (whole f)) ∙ full f in
+    let l : length (slave_data f w) ≡ data_bytes f = data_length (blocks f) (block_bytes f) w (let l : blocks f * (block_bytes f + 1) ≤ length w = omega (arith, p.1, whole f) in l) ∙ full f in
     let d : take n (slave_read_out f w out) ≡ slave_data f w =
     ap₂ take (sym p.4) (slave_in f w out p.0 p.1 p.2 p.3).1 ∙ take_at (slave_data f w) (drop (data_bytes f) out) (data_bytes f) l in
     let q = slave_out f (slave_data f w) back p.0 l (omega (arith, p.1)) in (

@@ -13,12 +13,6 @@ use Rattle.frames.specs.Blocks.{framed, data_in, right_blocks, all_right}
 
 -- ---- places
 
-pub length_part : (at size : ℕ) (l : List ℕ) → at + size ≤ length l → length (take (at + size - at) (drop at l)) ≡ size
-length_part at size l h =
-    let d : length (drop at l) ≡ length l - at = length-drop at l in
-    let e : length (take (at + size - at) (drop at l)) ≡ at + size - at = length-take-le (at + size - at) (drop at l) (omega arith) in
-    omega arith
-
 -- the pieces before one of some, and that one, are no more than all
 pub within : (i count step len : ℕ) → i < count → count * step ≤ len → i * step + step ≤ len
 within i zero step len h g = absurd (omega arith)

@@ -1,5 +1,6 @@
-// Blocks of `size` bytes of data, each followed by its check sequence. A size that is a constant lets a block's copy be a
-// move, and its check sequence be written out.
+// Blocks of `size` bytes of data, each followed by its check sequence. The loops are called with the constants 2 and 8 too:
+// with the size alone frames of 16 and 256 bits fell behind the C peer. `count` and `size` go together without a struct:
+// each loop holds for any two that fit the frame.
 ghost use Rattle.std.specs.Prelude.{◌≡◌, ◌++◌, ◌+◌, ◌*◌, ◌≤◌, length, drop};
 ghost use Rattle.frames.specs.Blocks.{all_right, data_in, framed};
 

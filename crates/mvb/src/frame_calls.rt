@@ -9,7 +9,8 @@ ghost use Rattle.mvb.specs.Values.{OneSmallValue};
 
 use refusals::Refusal;
 
-// The answer of a call that fills a lent output. A frame has few bytes, so the number fits.
+// The answer of a call that fills a lent output. A frame has few bytes, so the number fits. `ports` has the like: one for
+// both would be a public function with a promise of its own.
 fn code_of(answer: Result<usize, Refusal>) -> u32
     requires { OneSmallValue (told single answer) }
     ensures { told_code result ≡ told single answer }

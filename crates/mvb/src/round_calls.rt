@@ -48,8 +48,8 @@ fn load(run: &[u16]) -> Round
     }
 }
 
-// The run with a round in it. Its reads change with a read alone, and are stored with it alone, last: stored with each
-// step they made a whole round a tenth slower.
+// The run with a round in it. Its reads change with a read alone, and are stored with it alone, last: with each step a
+// whole round takes a tenth longer.
 fn store(round: Round, run: &mut [u16])
     requires { (6 ≤ length run.old) × ReadsStand run.old round }
     ensures { run.new ≡ stored round run.old }
@@ -112,6 +112,7 @@ pub fn mvb_round_answer(run: &mut [u16], bytes: &[u8]) -> u32
     if is_short(run) {
         return Refusal::TooShort.code();
     }
+    // The phase as C lends it: each number above 1 has ended.
     if 1 < run[0] {
         return END;
     }

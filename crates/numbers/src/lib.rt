@@ -63,15 +63,22 @@ impl<'a> Reader<'a> {
         Reader { src, at }
     }
 
-    // The number at the reader's place. The reader stands after it then, or where it stood if there is none.
+    // The number at the reader's place, and the place after it.
+    pub fn next(self) -> Result<(u16, usize), Refusal>
+        ensures { told value_and_place result ≡ number_at self.entry.src.now self.entry.at }
+    {
+        number_at(self.src, self.at)
+    }
+
+    // Reads the number at the reader's place. The reader stands after it then, or where it stood if there is none.
     #[tactic(auto, using(crate::proofs::Answers::yields, crate::proofs::Answers::yields_none))]
-    pub fn next(&mut self) -> Result<u16, Refusal>
+    pub fn read(&mut self) -> Result<u16, Refusal>
         ensures value { told (value_then self.new.at) result ≡ number_at self.old.src.now self.old.at }
         ensures bytes { self.new.src ≡ self.old.src }
         ensures err { OnErr result (self.new.at ≡ self.old.at) }
         ensures left { Yields result (left self.old) (left self.new) }
     {
-        let (value, next) = match number_at(self.src, self.at) {
+        let (value, next) = match self.next() {
             Ok(read) => read,
             Err(refusal) => return Err(refusal),
         };
@@ -84,11 +91,7 @@ impl<'a> Reader<'a> {
 pub fn read_number(s: &[u8], at: usize) -> Result<(u16, usize), Refusal>
     ensures { told value_and_place result ≡ number_at s.now at }
 {
-    let mut reader = Reader::new(s, at);
-    match reader.next() {
-        Ok(value) => Ok((value, reader.at)),
-        Err(refusal) => Err(refusal),
-    }
+    Reader::new(s, at).next()
 }
 
 // How many numbers were read, and the place after them.
@@ -105,7 +108,7 @@ pub fn read_numbers(s: &[u8], at: usize, out: &mut [u16]) -> Run
 {
     let mut reader = Reader::new(s, at);
     for (i, place) in out.iter_mut().enumerate() {
-        let Ok(value) = reader.next() else {
+        let Ok(value) = reader.read() else {
             return Run {
                 count: i,
                 next: reader.at,
@@ -133,7 +136,7 @@ pub fn sum_numbers(s: &[u8], at: usize, k: u16) -> Summed
     let mut reader = Reader::new(s, at);
     let mut total: usize = 0;
     for _ in 0..k {
-        let Ok(value) = reader.next() else { break };
+        let Ok(value) = reader.read() else { break };
         total += value as usize;
     }
     Summed {

@@ -37,7 +37,7 @@ pub struct Round {
     pub counts: Counts,
 }
 
-// The round and its next word; or the round that has ended, and its counts.
+// The round and its next word; or the round that has ended, and its three counts, as the rules name what a step hands back.
 #[derive(Clone, Copy)]
 pub enum Step {
     Next(Round, u16),
@@ -109,7 +109,8 @@ impl Round {
         self.next()
     }
 
-    // The answer to a read, whatever it is: on to what follows. A full round cannot ask any more and can only end.
+    // The answer to a read, whatever it is, though each step matches it: on to what follows. A full round cannot ask any more
+    // and can only end.
     fn resume(self, answer: LineAnswer) -> Result<Step, Refusal>
         requires { is_group self.m self.c ≡ true }
         ensures { result ≡ resumed self.m self.c self.counts }

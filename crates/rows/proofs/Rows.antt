@@ -91,11 +91,6 @@ pub whole : (f : ℕ) → blocks f * (block_bytes f + 1) ≡ frame_bytes f
 unfolding frame_bytes
 whole f = mul-add (blocks f) (block_bytes f) 1 ∙ ap₂ (λ (a b : ℕ). a + b) (full f) (mul-one (blocks f))
 
--- a block of two bytes is the only one
-pub lone_word : (f : ℕ) → block_bytes f ≡ 2 → blocks f ≡ 1
-unfolding block_bytes blocks data_bytes
-lone_word f e = omega arith
-
 pub block_most : (f : ℕ) → block_bytes f ≤ 8
 unfolding block_bytes
 block_most f = omega arith
@@ -147,9 +142,6 @@ reserved_is f row e = ap (λ k. eqb k 0) (flag f row e) ∙ by_case (reserved f)
 -- ---- what else it says
 
 module _ (f : ℕ) (row : List ℕ) (e : row ≡ row_of f) where
-  pub row_allowed : eqb (get_or row 3 0) 1 ≡ not (reserved f)
-  row_allowed = ap (λ (l : List ℕ). eqb (get_or l 3 0) 1) e ∙ allowed_is f
-
   pub row_data : get_or row 0 0 / 8 ≡ data_bytes f
   row_data = ap (λ (l : List ℕ). get_or l 0 0 / 8) e ∙ data_is f
 
@@ -171,7 +163,3 @@ module _ (f : ℕ) (row : List ℕ) (e : row ≡ row_of f) where
   pub row_size_large : 8 ≤ get_or row 0 0 / 8 → 8 ≡ block_bytes f
   unfolding block_bytes
   row_size_large h = let d : get_or row 0 0 / 8 ≡ data_bytes f = row_data in omega arith
-
-  pub row_small : get_or row 0 0 / 8 ≤ 32
-  unfolding data_bytes
-  row_small = let d : get_or row 0 0 / 8 ≡ data_bits f / 8 = row_data in omega (arith, bits_most f)

@@ -12,6 +12,7 @@ pub fn copy_front(from: &[u8], to: &mut [u8])
     } else {
         to.len()
     };
+    // By one index for both runs, which go on in step.
     for i in 0..count {
         to[i] = from[i];
     }
