@@ -1,6 +1,6 @@
 -- The goodness test, from the last record to the first.
 -- Assumes nothing.
-use Rattle.std.proofs.Common.{ℕ, zero, suc, ◌+◌, ◌-◌, ◌*◌, ◌/◌, ◌%◌, ◌^◌, ◌<◌, ◌≤◌, ◌≡◌, Bool, true, false, not, cond, ◌&&◌, refl, sym, ap, ap₂, subst, ◌∙◌, arith, List, [], ◌∷◌, ◌++◌, length, get_or, set, take, drop, drop-cons, length-drop, drop_of_length-le, length-take, eqb, ltb, leb, Option, Some, None}
+use Rattle.std.proofs.Common.{ℕ, zero, suc, ◌+◌, ◌-◌, ◌*◌, ◌/◌, ◌%◌, ◌^◌, ◌<◌, ◌≤◌, ◌≡◌, Bool, true, false, cond, ◌&&◌, refl, sym, ap, ap₂, subst, ◌∙◌, arith, List, [], ◌∷◌, ◌++◌, length, get_or, set, take, drop, drop-cons, drop_of_length-le, eqb, ltb, leb, Some, None}
 use mathlib.Core.Bool.{and-false}
 use lib.ListN.{take-append-drop, length-set}
 use lib.Pow.{pow_pos}
@@ -8,7 +8,6 @@ use lib.Seq.{get_or-set_same, get_or-set_other}
 use borrow.Author.Tests.{lt-ltb, le-ltb, le-leb, lt-leb, ltb-true, ltb-false}
 use Rattle.checks.specs.Bits.{one}
 use Rattle.port_table.specs.declared.Port.{Port}
-use Rattle.port_table.specs.declared.Tested.{Tested}
 use Rattle.port_table.specs.Table.{rising, good, no_port, is_sink}
 use Rattle.port_table.specs.Tested.{sink_bits, sinks_part, sinks_in, good_tested, tested_of}
 use Rattle.port_table.proofs.Tables.{by_cases, not_both}
@@ -55,7 +54,6 @@ rising_behind [] rs h = h
 rising_behind (q ∷ qs) rs h =
     let more = both (ltb q.address (lowest (qs ++ rs))) _ (sym (rising_more q (qs ++ rs)) ∙ h) in
     rising_behind qs rs (both (ltb q.f_code 5) _ more.1).1
-
 
 pub none_lowest : (ps : List Port) → (rising 0 (drop (length ps) ps) ≡ true) × (4096 ≡ lowest (drop (length ps) ps))
 unfolding rising
@@ -144,9 +142,9 @@ module _ (ps : List Port) (i : ℕ) (sinks : List ℕ) (bits : ℕ) (e : bits �
   unfolding sinks_part
   taken_here h l k f g = by_cases (eqb k (i / 64))
       (λ c. let z : k ≡ i / 64 = borrow.Author.Tests.eqb-true k (i / 64) c in
-        ap (λ (n : ℕ). get_or (set sinks (i / 64) bits) n 0) z ∙ get_or-set_same sinks (i / 64) bits 0 l ∙ e ∙ ap (λ (n : ℕ). sink_bits (take 64 (drop n ps))) (let y : i ≡ 64 * k = omega arith in y))
+      ap (λ (n : ℕ). get_or (set sinks (i / 64) bits) n 0) z ∙ get_or-set_same sinks (i / 64) bits 0 l ∙ e ∙ ap (λ (n : ℕ). sink_bits (take 64 (drop n ps))) (let y : i ≡ 64 * k = omega arith in y))
       (λ c. let z : k ≡ i / 64 → ⊥ = borrow.Author.Tests.eqb-false k (i / 64) c in
-        get_or-set_other sinks (i / 64) k bits 0 z ∙ t k f (omega (arith, z)))
+      get_or-set_other sinks (i / 64) k bits 0 z ∙ t k f (omega (arith, z)))
 
   pub taken_on : (i % 64 ≡ 0 → ⊥) → Taken i ps sinks
   taken_on h k f g = t k f (omega (arith, h))

@@ -8,7 +8,7 @@ use Rattle.port_table.specs.declared.Place.{Place}
 use Rattle.port_table.specs.declared.Seen.{Seen}
 use Rattle.port_table.specs.Table.{rising, good, port_bytes, table_bytes, before, place_of, offset_of, port_of, no_port}
 use Rattle.port_table.specs.Seen.{good_seen, seen_of}
-use Rattle.port_table.proofs.Tables.{by_cases, good_split}
+use Rattle.port_table.proofs.Tables.{by_cases}
 
 -- the place of a record that has the address, else what was found before
 abbrev pub or_here : Place → Option Place → ℕ → Option Place

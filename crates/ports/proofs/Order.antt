@@ -155,7 +155,7 @@ module _ (ps : List Port) (store ages : List ℕ) (a : ℕ) (out : List ℕ) (ag
         let l : length (take (p.offset + size - p.offset) (drop p.offset store)) ≡ port_bytes p.port = part_length p.offset size store (omega (arith, q.3, es)) ∙ es in (
           ap (λ (n : ℕ). gives (n ∷ [])) (es ∙ ap (λ (x : Place). port_bytes x.port) q.1) ∙ answered_yes k _,
           eo ∙ ap (λ (d : List ℕ). d ++ drop (length (take (p.offset + size - p.offset) (drop p.offset store))) out) (take_all (length out) (take (p.offset + size - p.offset) (drop p.offset store)) (omega (arith, l, es)))
-          ∙ ap₂ (λ (m n : ℕ). take m (drop p.offset store) ++ drop n out) z l ∙ ap (λ (x : Place). take (port_bytes x.port) (drop x.offset store) ++ drop (port_bytes x.port) out) q.1 ∙ changed k _ out,
+              ∙ ap₂ (λ (m n : ℕ). take m (drop p.offset store) ++ drop n out) z l ∙ ap (λ (x : Place). take (port_bytes x.port) (drop x.offset store) ++ drop (port_bytes x.port) out) q.1 ∙ changed k _ out,
           ap (λ (x : Place). get_or ages x.at 0) q.1 ∙ changed k _ age,
         )
 

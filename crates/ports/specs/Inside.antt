@@ -1,8 +1,9 @@
 -- What the functions inside the crate promise each other.
 -- Assumes nothing.
-use Rattle.std.specs.Prelude.{Bool, not, cond, List, [], ◌∷◌, ℕ, ◌/◌, ◌%◌, ◌^◌, eqb, ltb, length, get_or}
+use Rattle.std.specs.Prelude.{not, cond, List, [], ◌∷◌, ℕ, ◌/◌, ◌%◌, eqb, ltb, length}
 use Rattle.rows.specs.Rows.{blocks, block_bytes, frame_bytes}
 use Rattle.frames.specs.Blocks.{all_right}
+use Rattle.ports.specs.Ticking.{older}
 
 -- the values of an answer that only says that the call was done
 abbrev pub done : Unit {0} → List ℕ
@@ -16,6 +17,7 @@ frame_check f frame = cond (not (eqb (length frame) (frame_bytes f))) 1 (cond (n
 abbrev pub out_check : ℕ → List ℕ → ℕ
 out_check f out = cond (ltb (length out) (frame_bytes f)) 4 0
 
--- whether the goodness test shows record i as a sink, by its bit in the parts of 64 records
-abbrev pub is_marked : List ℕ → ℕ → Bool
-is_marked sinks i = eqb (get_or sinks (i / 64) 0 / 2 ^ (i % 64) % 2) 1
+-- the ages of records after a tick by their marks, of which the first one's is the lowest bit: 1 for a sink
+abbrev pub aged_by : ℕ → List ℕ → List ℕ
+aged_by marks [] = []
+aged_by marks (age ∷ ages) = cond (eqb (marks % 2) 1) (older age) age ∷ aged_by (marks / 2) ages

@@ -1,22 +1,32 @@
 // A tick.
-ghost use Rattle.std.specs.Prelude.{◌≡◌, ◌<◌, ◌≤◌, ◌+◌, ◌*◌, cond, length};
+ghost use Rattle.std.specs.Prelude.{◌≡◌, ◌<◌, ◌≤◌, cond, eqb, length};
 ghost use Rattle.refusals.specs.Told.{told};
 ghost use Rattle.ports.specs.Ticking.{older, tick, tick_ages};
-ghost use Rattle.ports.specs.Inside.{done, is_marked};
+ghost use Rattle.ports.specs.Inside.{done, aged_by};
 
-use port_table::{Port, Tested};
+use port_table::Port;
 use refusals::Refusal;
 
-// The age of record i's data after a tick: a source's stays.
-fn older(tested: &Tested, i: usize, age: u16) -> u16
-    requires { i < 256 }
-    ensures { result ≡ cond (is_marked tested.now.sinks i) (older age) age }
+// The age of a record's data after a tick: a source's stays.
+fn older(mark: u64, age: u16) -> u16
+    ensures { result ≡ cond (eqb mark 1) (older age) age }
 {
-    let mark = (tested.sinks[i / 64] >> (i % 64)) % 2;
     if mark != 1 || age == 65535 {
         return age;
     }
     age + 1
+}
+
+// The ages of records of one part, by their marks: the first one's is the lowest bit. Where they are eight for certain,
+// all are aged at once.
+#[inline(always)]
+fn age_run(marks: u64, ages: &mut [u16])
+    requires { length ages.old ≤ 64 }
+    ensures { ages.new ≡ aged_by marks ages.old }
+{
+    for i in 0..ages.len() {
+        ages[i] = older((marks >> i) % 2, ages[i]);
+    }
 }
 
 // 13; 4 for ages.
@@ -27,11 +37,19 @@ pub(crate) fn tick(table: &[Port], ages: &mut [u16]) -> Result<(), Refusal>
     let Some(tested) = port_table::test_table(table) else {
         return Err(Refusal::TableNotGood);
     };
-    if ages.len() < tested.count {
+    let count = tested.count;
+    if ages.len() < count {
         return Err(Refusal::TooShort);
     }
-    for i in 0..tested.count {
-        ages[i] = older(&tested, i, ages[i]);
+    for eight in 0..count / 8 {
+        let from = 8 * eight;
+        let marks = tested.sinks[from / 64] >> (from % 64);
+        age_run(marks, &mut ages[from..from + 8]);
+    }
+    let from = count / 8 * 8;
+    if from < count {
+        let marks = tested.sinks[from / 64] >> (from % 64);
+        age_run(marks, &mut ages[from..count]);
     }
     Ok(())
 }
