@@ -19,7 +19,7 @@ unfoldable pub walked : ℕ → ℕ → ℕ → ℕ → ℕ → Option Place →
 walked a n at low bytes place [] = cond (leb low 4096) (Some (record { count = n; bytes = bytes; place = place })) None
 walked a n at low bytes place (p ∷ ps) =
     cond (leb low p.address && ltb p.f_code 5)
-    (walked a n (at + 1) (p.address + 1) (bytes + port_bytes p) (or_here (record { at = at; offset = bytes; port = p }) place a) ps) None
+    (walked a n (at + 1) (p.address + 1) (bytes + port_bytes p) (or_here (record { at = at; offset = bytes; size = port_bytes p; port = p }) place a) ps) None
 
 pub some_none : {A : Type 0} {x : A} → None ≡ Some x → ⊥
 some_none e = let z : ◌≡◌ {A = ℕ} 0 1 = cc in omega arith
@@ -42,14 +42,14 @@ or_none (Some p) = refl
 
 -- what is found among records that lie so many records and bytes behind the first
 abbrev found_from : ℕ → ℕ → ℕ → List Port → Option Place
-found_from at bytes a ps = cond (ltb (place_of a ps) (length ps)) (Some (record { at = at + place_of a ps; offset = bytes + offset_of a ps; port = port_of a ps })) None
+found_from at bytes a ps = cond (ltb (place_of a ps) (length ps)) (Some (record { at = at + place_of a ps; offset = bytes + offset_of a ps; size = port_bytes (port_of a ps); port = port_of a ps })) None
 
 both_more : (m n : ℕ) → ltb (suc m) (suc n) ≡ ltb m n
 both_more m n = by_cases (ltb m n) (λ t. lt-ltb (suc m) (suc n) (omega (arith, ltb-true m n t)) ∙ sym t) (λ f. le-ltb (suc m) (suc n) (omega (arith, ltb-false m n f)) ∙ sym f)
 
 module _ (a at bytes low : ℕ) (place : Option Place) (p : Port) (ps : List Port) (h : Earlier place a low) (l : low ≤ p.address) where
   abbrev here : Place
-  here = record { at = at; offset = bytes; port = p }
+  here = record { at = at; offset = bytes; size = port_bytes p; port = p }
 
   earlier_next : Earlier (or_here here place a) a (p.address + 1)
   earlier_next = by (eqb p.address a) refl
@@ -69,20 +69,20 @@ module _ (a at bytes low : ℕ) (place : Option Place) (p : Port) (ps : List Por
       from : Bool → Option Place
       from b =
           let bs : List Port = cond b [] (p ∷ before a ps) in
-          cond (ltb (length bs) (length (p ∷ ps))) (Some (record { at = at + length bs; offset = bytes + table_bytes bs; port = get_or (p ∷ ps) (length bs) no_port })) None
+          cond (ltb (length bs) (length (p ∷ ps))) (Some (record { at = at + length bs; offset = bytes + table_bytes bs; size = port_bytes (get_or (p ∷ ps) (length bs) no_port); port = get_or (p ∷ ps) (length bs) no_port })) None
 
       first : (q : Option Place) → Earlier q a low → p.address ≡ a → Some here ≡ or_else q (from true)
       first None h e =
-          ap₂ (λ (n o : ℕ). Some (record { at = n; offset = o; port = p })) (let z : at ≡ at + 0 = omega arith in z) (let z : bytes ≡ bytes + 0 = omega arith in z)
-          ∙ ap (λ (b : Bool). cond b (Some (record { at = at + 0; offset = bytes + 0; port = p })) None) (sym (lt-ltb 0 (suc (length ps)) (omega arith)))
+          ap₂ (λ (n o : ℕ). Some (record { at = n; offset = o; size = port_bytes p; port = p })) (let z : at ≡ at + 0 = omega arith in z) (let z : bytes ≡ bytes + 0 = omega arith in z)
+          ∙ ap (λ (b : Bool). cond b (Some (record { at = at + 0; offset = bytes + 0; size = port_bytes p; port = p })) None) (sym (lt-ltb 0 (suc (length ps)) (omega arith)))
       first (Some q) h e = absurd (omega arith)
 
       by : (b : Bool) → eqb p.address a ≡ b → or_else (cond b (Some here) place) (found_from (at + 1) (bytes + port_bytes p) a ps) ≡ or_else place (from b)
       by true e = first place h (eqb-true p.address a e)
       by false e =
-          ap₂ (λ (n o : ℕ). or_else place (cond (ltb (place_of a ps) (length ps)) (Some (record { at = n; offset = o; port = port_of a ps })) None))
+          ap₂ (λ (n o : ℕ). or_else place (cond (ltb (place_of a ps) (length ps)) (Some (record { at = n; offset = o; size = port_bytes (port_of a ps); port = port_of a ps })) None))
           (let z : at + 1 + place_of a ps ≡ at + suc (place_of a ps) = omega arith in z) (let z : bytes + port_bytes p + offset_of a ps ≡ bytes + (port_bytes p + offset_of a ps) = omega arith in z)
-          ∙ ap (λ (b : Bool). or_else place (cond b (Some (record { at = at + suc (place_of a ps); offset = bytes + (port_bytes p + offset_of a ps); port = port_of a ps })) None)) (sym (both_more (place_of a ps) (length ps)))
+          ∙ ap (λ (b : Bool). or_else place (cond b (Some (record { at = at + suc (place_of a ps); offset = bytes + (port_bytes p + offset_of a ps); size = port_bytes (port_of a ps); port = port_of a ps })) None)) (sym (both_more (place_of a ps) (length ps)))
 
 -- ---- the walk
 
@@ -97,10 +97,10 @@ high : (a n at low bytes : ℕ) (place : Option Place) (ps : List Port) → 4096
 unfolding walked
 high a n at low bytes place [] h = ap (λ (b : Bool). cond b (Some (record { count = n; bytes = bytes; place = place })) None) (lt-leb low 4096 h)
 high a n at low bytes place (p ∷ ps) h =
-    by (leb low p.address) refl (λ l. high a n (at + 1) (p.address + 1) (bytes + port_bytes p) (or_here (record { at = at; offset = bytes; port = p }) place a) ps (omega arith))
+    by (leb low p.address) refl (λ l. high a n (at + 1) (p.address + 1) (bytes + port_bytes p) (or_here (record { at = at; offset = bytes; size = port_bytes p; port = p }) place a) ps (omega arith))
   where
     next : Option Seen
-    next = walked a n (at + 1) (p.address + 1) (bytes + port_bytes p) (or_here (record { at = at; offset = bytes; port = p }) place a) ps
+    next = walked a n (at + 1) (p.address + 1) (bytes + port_bytes p) (or_here (record { at = at; offset = bytes; size = port_bytes p; port = p }) place a) ps
 
     by : (b : Bool) → leb low p.address ≡ b → (low ≤ p.address → next ≡ None) → cond (b && ltb p.f_code 5) next None ≡ None
     by true e ih = ap (λ (x : Option Seen). cond (ltb p.f_code 5) x None) (ih (leb-true low p.address e)) ∙ by_cases (ltb p.f_code 5) (λ t. ap (λ (b : Bool). cond b None None) t) (λ f. ap (λ (b : Bool). cond b None None) f)
@@ -127,7 +127,7 @@ rest a n at low bytes place (p ∷ ps) l h =
         both {b = false} c h = absurd (mathlib.Core.Bool.false≢true h)
 
     next : Option Place
-    next = or_here (record { at = at; offset = bytes; port = p }) place a
+    next = or_here (record { at = at; offset = bytes; size = port_bytes p; port = p }) place a
 
     all : Option Seen
     all = Some (record { count = n; bytes = bytes + table_bytes (p ∷ ps); place = or_else place (found_from at bytes a (p ∷ ps)) })
@@ -151,7 +151,7 @@ unfolding seen_of good
 walks a ps h =
     rest a (length ps) 0 0 0 None ps (omega arith) tt
     ∙ ap (λ (b : ℕ). cond (rising 0 ps) (Some (record { count = length ps; bytes = b; place = found_from 0 0 a ps })) None) (zero-add (table_bytes ps))
-    ∙ ap₂ (λ (n o : ℕ). cond (rising 0 ps) (Some (record { count = length ps; bytes = table_bytes ps; place = cond (ltb (place_of a ps) (length ps)) (Some (record { at = n; offset = o; port = port_of a ps })) None })) None) (zero-add (place_of a ps)) (zero-add (offset_of a ps))
+    ∙ ap₂ (λ (n o : ℕ). cond (rising 0 ps) (Some (record { count = length ps; bytes = table_bytes ps; place = cond (ltb (place_of a ps) (length ps)) (Some (record { at = n; offset = o; size = port_bytes (port_of a ps); port = port_of a ps })) None })) None) (zero-add (place_of a ps)) (zero-add (offset_of a ps))
     ∙ ap (λ (b : Bool). cond (b && rising 0 ps) (Some (good_seen a ps)) None) (sym (le-leb (length ps) 256 h))
 
 pub too_many : (a : ℕ) (ps : List Port) → 256 < length ps → None ≡ seen_of a ps

@@ -47,10 +47,6 @@ no_port = record { address = 0; f_code = 0; sink = 0 }
 abbrev pub port_of : ℕ → List Port → Port
 port_of a ps = get_or ps (place_of a ps) no_port
 
--- its data in bytes; none where no record has the address
-abbrev pub size_of : ℕ → List Port → ℕ
-size_of a ps = cond (listed a ps) (port_bytes (port_of a ps)) 0
-
 -- "sink or source": 0 is a source, anything else a sink
 abbrev pub is_sink : Port → Bool
 is_sink p = not (eqb p.sink 0)

@@ -8,6 +8,7 @@ use Rattle.port_table.specs.Table.{port_bytes, place_of, offset_of, listed, port
 use Rattle.port_table.specs.Seen.{found_in, seen_of}
 use Rattle.port_table.proofs.Walk.{shown_good}
 use Rattle.port_table.proofs.Places.{within}
+use Rattle.port_table.proofs.Tables.{size_most}
 use borrow.Author.Tests.{ltb-true}
 
 some_none : {A : Type 0} {x : A} → None ≡ Some x → ⊥
@@ -15,7 +16,7 @@ some_none e = let z : ◌≡◌ {A = ℕ} 0 1 = cc in omega arith
 
 -- the place of the port with the address
 abbrev pub there : ℕ → List Port → Place
-there a ps = record { at = place_of a ps; offset = offset_of a ps; port = port_of a ps }
+there a ps = record { at = place_of a ps; offset = offset_of a ps; size = port_bytes (port_of a ps); port = port_of a ps }
 
 found_none : (a : ℕ) (ps : List Port) → None ≡ found_in a ps → listed a ps ≡ false
 found_none a ps = by (listed a ps)
@@ -37,7 +38,7 @@ shown_none s a ps e n = found_none a ps (sym n ∙ ap (λ (t : Seen). t.place) (
 
 -- and where one was
 pub shown_at : (s : Seen) (p : Place) (a : ℕ) (ps : List Port) → Some s ≡ seen_of a ps → s.place ≡ Some p
-    → (listed a ps ≡ true) × (p ≡ there a ps) × (p.at < s.count) × (p.offset + port_bytes p.port ≤ s.bytes)
+    → (listed a ps ≡ true) × (p ≡ there a ps) × (p.at < s.count) × (p.offset + p.size ≤ s.bytes) × (p.size ≡ port_bytes p.port)
 shown_at s p a ps e f =
     let g = (shown_good s a ps e).1 in
     let h = found_some p a ps (sym f ∙ ap (λ (t : Seen). t.place) g) in
@@ -45,5 +46,14 @@ shown_at s p a ps e f =
       h.0,
       h.1,
       subst (λ (q : Place). q.at < s.count) (sym h.1) (subst (λ (t : Seen). place_of a ps < t.count) (sym g) l),
-      subst (λ (q : Place). q.offset + port_bytes q.port ≤ s.bytes) (sym h.1) (subst (λ (t : Seen). offset_of a ps + port_bytes (port_of a ps) ≤ t.bytes) (sym g) (within a ps l)),
+      subst (λ (q : Place). q.offset + q.size ≤ s.bytes) (sym h.1) (subst (λ (t : Seen). offset_of a ps + port_bytes (port_of a ps) ≤ t.bytes) (sym g) (within a ps l)),
+      subst (λ (q : Place). q.size ≡ port_bytes q.port) (sym h.1) refl,
     )
+
+-- its size is its port's
+pub sized : (s : Seen) (p : Place) (a : ℕ) (ps : List Port) → Some s ≡ seen_of a ps → s.place ≡ Some p → p.size ≡ port_bytes p.port
+sized s p a ps e f = (shown_at s p a ps e f).4
+
+-- at most 32 bytes
+pub few_bytes : (s : Seen) (p : Place) (a : ℕ) (ps : List Port) → Some s ≡ seen_of a ps → s.place ≡ Some p → p.size < 65536
+few_bytes s p a ps e f = omega (arith, sized s p a ps e f, size_most p.port.f_code)

@@ -114,7 +114,7 @@ module _ (ps : List Port) (store : List ℕ) (word : ℕ) (out : List ℕ) (s : 
   answer_done size es t et out' eo =
       let q = shown_at s p (address word) ps e at in
       let z : p.offset + size - p.offset ≡ port_bytes p.port = omega arith in
-      let l : length (take (p.offset + size - p.offset) (drop p.offset store)) ≡ data_bytes (f_code_of word) = part_length p.offset size store (omega (arith, q.3, es)) ∙ es ∙ ap data_bytes h5 in
+      let l : length (take (p.offset + size - p.offset) (drop p.offset store)) ≡ data_bytes (f_code_of word) = part_length p.offset size store (omega (arith, q.3, q.4, es)) ∙ es ∙ ap data_bytes h5 in
       let w = written (f_code_of word) (take (p.offset + size - p.offset) (drop p.offset store)) out h3 l in (
         et ∙ w.0 ∙ ap (λ (n : ℕ). answered n (frame_bytes (f_code_of word) ∷ [])) (sym answer_on),
         eo ∙ w.1 ∙ ap (λ (n : ℕ). unless_refused n (slave_frame (f_code_of word) (take (p.offset + size - p.offset) (drop p.offset store)) ++ drop (frame_bytes (f_code_of word)) out) out) (sym answer_on)
@@ -152,7 +152,7 @@ module _ (ps : List Port) (store ages : List ℕ) (a : ℕ) (out : List ℕ) (ag
         let q = shown_at s p a ps e at in
         let k : read_refusal ps store ages a out ≡ 0 = read_on ∙ simp (ne_eqb p.port.sink 0 h6, le-ltb (length out) (port_bytes p.port) (subst (λ (n : ℕ). n ≤ length out) es room)) in
         let z : p.offset + size - p.offset ≡ port_bytes p.port = omega arith in
-        let l : length (take (p.offset + size - p.offset) (drop p.offset store)) ≡ port_bytes p.port = part_length p.offset size store (omega (arith, q.3, es)) ∙ es in (
+        let l : length (take (p.offset + size - p.offset) (drop p.offset store)) ≡ port_bytes p.port = part_length p.offset size store (omega (arith, q.3, q.4, es)) ∙ es in (
           ap (λ (n : ℕ). gives (n ∷ [])) (es ∙ ap (λ (x : Place). port_bytes x.port) q.1) ∙ answered_yes k _,
           eo ∙ ap (λ (d : List ℕ). d ++ drop (length (take (p.offset + size - p.offset) (drop p.offset store))) out) (take_all (length out) (take (p.offset + size - p.offset) (drop p.offset store)) (omega (arith, l, es)))
               ∙ ap₂ (λ (m n : ℕ). take m (drop p.offset store) ++ drop n out) z l ∙ ap (λ (x : Place). take (port_bytes x.port) (drop x.offset store) ++ drop (port_bytes x.port) out) q.1 ∙ changed k _ out,

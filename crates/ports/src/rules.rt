@@ -14,14 +14,6 @@ ghost use Rattle.ports.specs.Inside.{done, frame_check};
 use port_table::Port;
 use refusals::Refusal;
 
-// A port's data in bytes, as its row has it.
-#[tactic(auto, using(rows::proofs::Rows::data_is, port_table::proofs::Tables::size_most))]
-fn size(port: Port) -> usize
-    ensures { (result ≡ port_bytes port) × (result ≤ 32) }
-{
-    (rows::row_of(port.f_code)[0] / 8) as usize
-}
-
 // Data into the store, from a place on.
 fn put(data: &[u8], store: &mut [u8], offset: usize)
     requires { offset + length «data».now ≤ length store.old }
@@ -113,7 +105,7 @@ pub(crate) fn answer(
     if place.port.sink != 0 {
         return Err(Refusal::WrongDirection);
     }
-    let end = place.offset + size(place.port);
+    let end = place.offset + place.size;
     frames::slave_write(f_code, &store[place.offset..end], out)
 }
 
@@ -145,7 +137,7 @@ pub(crate) fn read(
     if place.port.sink == 0 {
         return Err(Refusal::WrongDirection);
     }
-    let size = size(place.port);
+    let size = place.size;
     if out.len() < size {
         return Err(Refusal::TooShort);
     }
@@ -177,7 +169,7 @@ pub(crate) fn fill(
     if place.port.sink != 0 {
         return Err(Refusal::WrongDirection);
     }
-    if data.len() != size(place.port) {
+    if data.len() != place.size {
         return Err(Refusal::WrongLength);
     }
     put(data, store, place.offset);
