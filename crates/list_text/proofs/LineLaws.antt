@@ -1,6 +1,6 @@
 -- Numerals and lines: their digits by what they count, and how long they can be.
 -- Assumes nothing.
-use Prim.Native.Nat.{ℕ, ◌+◌, ◌/◌, ◌%◌, ◌≤◌, ◌<◌}
+use Prim.Native.Nat.{ℕ, zero, suc, ◌+◌, ◌/◌, ◌%◌, ◌≤◌, ◌<◌}
 use mathlib.Core.Path.{◌≡◌, refl, ap, sym, ◌∙◌}
 use mathlib.Core.Logic.{⊎_elim}
 use mathlib.Core.List.{List, [], ◌∷◌, ◌++◌, append_assoc}
@@ -8,7 +8,7 @@ use mathlib.Core.Bool.{Bool, true, false, cond}
 use native.Mathlib.Omega.{arith}
 use borrow.Author.Tests.{lt-ltb, le-ltb, le-leb, lt-leb}
 use lib.Dec.{ltb, leb}
-use lib.ListN.{length, length-append}
+use lib.ListN.{length, take, drop, set, length-append}
 use Rattle.std.proofs.lemmas.Bool.{cases_lt}
 use Rattle.list_text.specs.Text.{digit, two, decimal, hex, space, newline, field, header_line, word_line, refused_line}
 use Rattle.list_text.specs.Inside.{place}
@@ -156,6 +156,26 @@ decimal_pushed s n h =
     ∙ ap (λ (x : List ℕ). s ++ x) (sym (decimal_places n h))
 
 pub ruleset places_few = (length-append, place_few, decimal_pushed)
+
+-- a line's first four bytes set
+pub four_set : (bytes : List ℕ) (many a b c d : ℕ) → 4 ≤ many → many ≤ length bytes
+    → take many (set (set (set (set bytes 0 a) 1 b) 2 c) 3 d) ≡ (a ∷ b ∷ c ∷ d ∷ []) ++ drop 4 (take many bytes)
+four_set (w ∷ x ∷ y ∷ z ∷ bytes) (suc (suc (suc (suc many)))) a b c d l h = refl
+four_set [] many a b c d l h = absurd (omega arith)
+four_set (w ∷ []) many a b c d l h = absurd (omega arith)
+four_set (w ∷ x ∷ []) many a b c d l h = absurd (omega arith)
+four_set (w ∷ x ∷ y ∷ []) many a b c d l h = absurd (omega arith)
+four_set (w ∷ x ∷ y ∷ z ∷ bytes) zero a b c d l h = absurd (omega arith)
+four_set (w ∷ x ∷ y ∷ z ∷ bytes) (suc zero) a b c d l h = absurd (omega arith)
+four_set (w ∷ x ∷ y ∷ z ∷ bytes) (suc (suc zero)) a b c d l h = absurd (omega arith)
+four_set (w ∷ x ∷ y ∷ z ∷ bytes) (suc (suc (suc zero))) a b c d l h = absurd (omega arith)
+
+pub ruleset front_set = four_set
+
+-- a line with another word in its first four digits is that word's line
+pub line_set : (cycle sub w v : ℕ) (line : List ℕ) → line ≡ word_line cycle sub w → hex v ++ drop 4 line ≡ word_line cycle sub v
+unfolding word_line
+line_set cycle sub w v line e = ap (λ (x : List ℕ). hex v ++ drop 4 x) e
 
 pub ruleset decimals_few = (length-append, decimal_few)
 

@@ -1,5 +1,5 @@
 // A line of the text, in bytes of its own until it is whole.
-ghost use Rattle.std.specs.Prelude.{◌≡◌, [], ◌∷◌, ◌++◌, ◌+◌, ◌≤◌, ◌<◌, length};
+ghost use Rattle.std.specs.Prelude.{◌≡◌, [], ◌∷◌, ◌++◌, ◌+◌, ◌≤◌, ◌<◌, length, drop};
 ghost use Rattle.list_text.specs.Text.{digit, decimal, hex, field, header_line, word_line, refused_line};
 ghost use Rattle.list_text.specs.Inside.{place, Wrote};
 
@@ -143,6 +143,18 @@ impl Line {
         line.push_field(cycle, b' ');
         line.push_field(sub, b'\n');
         line
+    }
+
+    // Another word in the place of a line's first four digits.
+    #[tactic(auto, using(crate::proofs::LineLaws::front_set))]
+    pub(crate) fn set_word(&mut self, word: u16)
+        requires { 4 ≤ length self.old }
+        ensures { self.new ≡ hex word ++ drop 4 self.old }
+    {
+        self.bytes[0] = digit_of(word / 4096);
+        self.bytes[1] = digit_of(word / 256 % 16);
+        self.bytes[2] = digit_of(word / 16 % 16);
+        self.bytes[3] = digit_of(word % 16);
     }
 
     // A refusal by its number.
