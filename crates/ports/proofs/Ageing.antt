@@ -4,7 +4,7 @@ use Rattle.std.proofs.Common.{subst, ◌*◌, ◌/◌, ◌%◌, ◌^◌, ap₂, 
 use borrow.Author.Tests.{le-ltb}
 use borrow.Rule.Slice.PartMut.{put_mid}
 use mathlib.Core.List.{append-nil}
-use lib.Pow.{shr-shr, field, mod-mod-pow}
+use lib.Pow.{shr-shr}
 use lib.Seq.{take_all, take_at, drop_at, drop-drop, length-take-le}
 use Rattle.std.proofs.lemmas.List.{append_assoc}
 use lib.ListN.{take-append-drop, length-append, length-drop}
@@ -48,16 +48,6 @@ run_more marks ages first i age e h ea =
 pub run_all : (marks : ℕ) (ages first : List ℕ) (i : ℕ) → take i ages ++ aged_by (marks / 2 ^ i) (drop i ages) ≡ aged_by marks first → length ages ≤ i → ages ≡ aged_by marks first
 run_all marks ages first i e h =
     sym (ap₂ (λ (l r : List ℕ). l ++ aged_by (marks / 2 ^ i) r) (take_all i ages h) (drop_of_length-le ages {i = i} h) ∙ append-nil ages) ∙ e
-
--- of so many ages, so many marks
-pub low_marks : (n m : ℕ) (ages : List ℕ) → length ages ≤ n → aged_by (m % 2 ^ n) ages ≡ aged_by m ages
-low_marks n m [] h = refl
-low_marks zero m (a ∷ ages) h = absurd (omega arith)
-low_marks (suc n) m (a ∷ ages) h =
-    let e : suc n ≡ n + 1 = omega arith in
-    let p : m % 2 ^ suc n % 2 ≡ m % 2 = ap (λ (k : ℕ). m % 2 ^ k % 2) e ∙ mod-mod-pow m n 1 in
-    let q : m % 2 ^ suc n / 2 ≡ m / 2 % 2 ^ n = ap (λ (k : ℕ). m % 2 ^ k / 2) e ∙ field m n 1 in
-    ap₂ (λ (x y : ℕ). cond (eqb x 1) (older a) a ∷ aged_by y ages) p q ∙ ap (λ (l : List ℕ). cond (eqb (m % 2) 1) (older a) a ∷ l) (low_marks n (m / 2) ages (omega arith))
 
 aged_by_length : (m : ℕ) (ages : List ℕ) → length (aged_by m ages) ≡ length ages
 aged_by_length m [] = refl
@@ -110,10 +100,9 @@ module _ (t : Tested) (ps : List Port) (e : Some t ≡ tested_of ps) where
     old_length : length old ≡ n
     old_length = length-take-le n (drop from ages) (let d = length-drop from ages in omega arith)
 
-    pub aged_run : (new : List ℕ) → n ≤ 16 → new ≡ aged_by (get_or t.sinks (from / 64) 0 / 2 ^ (from % 64) % 65536) old → (to : ℕ) → to ≡ from + n
+    pub aged_run : (new : List ℕ) → new ≡ aged_by (get_or t.sinks (from / 64) 0 / 2 ^ (from % 64)) old → (to : ℕ) → to ≡ from + n
         → take to (put_mid from n ages new) ++ aged (drop to ps) (drop to (put_mid from n ages new)) ≡ aged ps first
-    aged_run new few el to et =
-        let en = el ∙ low_marks 16 (get_or t.sinks (from / 64) 0 / 2 ^ (from % 64)) old (omega (arith, old_length)) in
+    aged_run new en to et =
         let a : List ℕ = take from ages in
         let la : length a ≡ from = length-take-le from ages (omega arith) in
         let ln : length (a ++ new) ≡ from + n = omega (arith, length-append a new, ap length en, aged_by_length (get_or t.sinks (from / 64) 0 / 2 ^ (from % 64)) old, old_length) in
@@ -128,9 +117,9 @@ module _ (t : Tested) (ps : List Port) (e : Some t ≡ tested_of ps) where
         ∙ ap (λ (l : List ℕ). a ++ l) (sym (aged_split (drop from ps) old rest (let d = length-drop from ps in omega (arith, old_length))) ∙ ap (aged (drop from ps)) (take-append-drop n (drop from ages)))
         ∙ done
 
-    pub run_length : (new : List ℕ) → n ≤ 16 → new ≡ aged_by (get_or t.sinks (from / 64) 0 / 2 ^ (from % 64) % 65536) old → length (put_mid from n ages new) ≡ length ages
-    run_length new few en =
-        let e : length new ≡ n = ap length en ∙ aged_by_length (get_or t.sinks (from / 64) 0 / 2 ^ (from % 64) % 65536) old ∙ old_length in
+    pub run_length : (new : List ℕ) → new ≡ aged_by (get_or t.sinks (from / 64) 0 / 2 ^ (from % 64)) old → length (put_mid from n ages new) ≡ length ages
+    run_length new en =
+        let e : length new ≡ n = ap length en ∙ aged_by_length (get_or t.sinks (from / 64) 0 / 2 ^ (from % 64)) old ∙ old_length in
         omega (arith, length-append (take from ages) (new ++ rest), length-append new rest, length-take-le from ages (omega arith), length-drop n (drop from ages), length-drop from ages)
 
 -- all records, and what a call answers and leaves then

@@ -8,7 +8,7 @@ use port_table::Port;
 use refusals::Refusal;
 
 // The age of a record's data after a tick: a source's stays.
-fn older(mark: u16, age: u16) -> u16
+fn older(mark: u64, age: u16) -> u16
     ensures { result ≡ cond (eqb mark 1) (older age) age }
 {
     if mark != 1 || age == 65535 {
@@ -17,11 +17,11 @@ fn older(mark: u16, age: u16) -> u16
     age + 1
 }
 
-// The ages of at most 16 records, by their marks: the first one's is the lowest bit. Where they are eight for certain, all
-// are aged at once.
+// The ages of records of one part, by their marks: the first one's is the lowest bit. Where they are eight for certain,
+// all are aged at once.
 #[inline(always)]
-fn age_run(marks: u16, ages: &mut [u16])
-    requires { length ages.old ≤ 16 }
+fn age_run(marks: u64, ages: &mut [u16])
+    requires { length ages.old ≤ 64 }
     ensures { ages.new ≡ aged_by marks ages.old }
 {
     for i in 0..ages.len() {
@@ -43,12 +43,12 @@ pub(crate) fn tick(table: &[Port], ages: &mut [u16]) -> Result<(), Refusal>
     }
     for eight in 0..count / 8 {
         let from = 8 * eight;
-        let marks = ((tested.sinks[from / 64] >> (from % 64)) % 65536) as u16;
+        let marks = tested.sinks[from / 64] >> (from % 64);
         age_run(marks, &mut ages[from..from + 8]);
     }
     let from = count / 8 * 8;
     if from < count {
-        let marks = ((tested.sinks[from / 64] >> (from % 64)) % 65536) as u16;
+        let marks = tested.sinks[from / 64] >> (from % 64);
         age_run(marks, &mut ages[from..count]);
     }
     Ok(())
