@@ -1,7 +1,7 @@
 -- Tables: the bytes of their records, their goodness, and the places of their ports.
 -- Assumes nothing.
 use mathlib.Core.Path.{◌≡◌, refl, sym, ap, ◌∙◌}
-use mathlib.Core.Bool.{Bool, true, false, cond, ◌&&◌, and-eq-true_iff, and-true, and-false}
+use mathlib.Core.Bool.{Bool, true, false, cond, and-eq-true_iff}
 use mathlib.Core.List.{List, [], ◌∷◌, ◌++◌}
 use Prim.Native.Nat.{ℕ, suc, ◌+◌, ◌*◌, ◌≤◌}
 use native.Mathlib.Nat.{add-zero, zero-add, add_assoc}
