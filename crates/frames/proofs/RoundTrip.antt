@@ -10,7 +10,7 @@ use native.Mathlib.Omega.{arith}
 use borrow.Author.Tests.{eq-eqb, eqb-true, not-false, ltb-true, ltb-false, le-ltb}
 use lib.Dec.{ltb}
 use lib.Pow.{are_bytes}
-use lib.ListN.{length, get_or, take, drop, length-append, length-drop, take-append-drop}
+use lib.ListN.{length, get_or, take, drop, length-drop, take-append-drop}
 use lib.Seq.{take_at, drop_at, get_or_at, drop-drop, length-take-le, split_at}
 use Rattle.checks.specs.Check.{check_of}
 use Rattle.refusals.specs.Told.{Told, gives, refusal}

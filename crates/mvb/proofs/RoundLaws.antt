@@ -25,7 +25,7 @@ use Rattle.rounds.specs.declared.Round.{Round}
 use Rattle.rounds.specs.declared.Step.{Step}
 use Rattle.rounds.specs.declared.Step.TheVariants.{Next, End}
 use Rattle.rounds.specs.Rounds.{Verdict, nobody, named, unclear, judge, none, one_request, one_unresolved, round, stand, heard, impossible, ended, reading, Handed, step_by, step_of, start_of}
-use Rattle.rounds.specs.Told.{phase_number, round_values, step_values}
+use Rattle.rounds.specs.Told.{round_values, step_values}
 use Rattle.rounds.proofs.Apart.{steps_apart}
 use Rattle.mvb.specs.Rounds.{phase_of, round_in, stored, told_step, run_after, start_answer, start_run, round_answer, round_run}
 use Rattle.mvb.specs.Inside.{AsHeard, ReadsStand}
