@@ -94,7 +94,7 @@ pub fn read_number(s: &[u8], at: usize) -> Result<(u16, usize), Refusal>
     Reader::new(s, at).next()
 }
 
-// How many numbers were read, and the place after them.
+// How many numbers were read, and the place after them, each by the name that its promise has.
 #[derive(Clone, Copy)]
 pub struct Run {
     pub count: usize,
@@ -122,7 +122,7 @@ pub fn read_numbers(s: &[u8], at: usize, out: &mut [u16]) -> Run
     }
 }
 
-// What some numbers add up to, and the place after them.
+// What some numbers add up to, and the place after them, each by the name that its promise has.
 #[derive(Clone, Copy)]
 pub struct Summed {
     pub total: usize,

@@ -1,4 +1,5 @@
-// The rules of the calls that name a port.
+// The rules of the calls that name a port. Each makes the tests in its own order, as the rules have it. Table, store, ages
+// and data are parameters one by one, as C lends them.
 ghost use Rattle.std.specs.Prelude.{◌≡◌, [], ◌∷◌, ◌+◌, ◌<◌, ◌≤◌, length, MatchResult};
 ghost use Rattle.refusals.specs.Told.{told, single};
 ghost use Rattle.rows.specs.Rows.{data_bytes};

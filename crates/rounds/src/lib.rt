@@ -28,7 +28,7 @@ pub struct Counts {
     pub unresolved: u16,
 }
 
-// A round at the group {m, c}.
+// A round at the group {m, c}, two numbers as C lends them.
 #[derive(Clone, Copy)]
 pub struct Round {
     pub phase: Phase,
