@@ -31,9 +31,11 @@ pub loop-i-preserved : goal.loop-i-preserved
 loop-i-preserved c = let a = c.args in
     let p = a.places.now in
     let i = c.loop-i.invariant.0 in
-    let line = c.set_word.ensures ∙ line_set a.cycle a.sub i.0 c.sum_numbers-word.result.total _ i.1 in
-    ((_, line), λ h. lines_more a.list.now p.read a.many a.cycle a.sub p.written a.out.now h _ _ _ _ (c.loop-i.invariant.1 h) c.loop-i-test.true _ _ c.sum_numbers-word.ensures _ _
-    (as_bytes _ _ _ _ _ _ line c.put-places.ensures) c.put-places.auto.out)
+    let line = c.set_word.ensures ∙ line_set a.cycle a.sub i.0 c.sum_numbers-word.result.total _ i.1 in (
+      (_, line),
+      λ h. lines_more a.list.now p.read a.many a.cycle a.sub p.written a.out.now h _ _ _ _ (c.loop-i.invariant.1 h) c.loop-i-test.true _ _ c.sum_numbers-word.ensures _ _
+          (as_bytes _ _ _ _ _ _ line c.put-places.ensures) c.put-places.auto.out,
+    )
 
 pub returns : goal.returns
 returns c h = let a = c.args in
