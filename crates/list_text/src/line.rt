@@ -6,6 +6,7 @@ ghost use Rattle.list_text.specs.Inside.{place, Wrote};
 use lists::Header;
 use std::marker::Model;
 
+// At most 20 bytes: fixed memory.
 #[derive(Drop)]
 pub(crate) struct Line {
     bytes: [u8; 20],
@@ -33,7 +34,8 @@ fn digit_of(d: u16) -> u8
     }
 }
 
-// How many digits a number below 10,000 has.
+// How many digits a number below 10,000 has, beside `push_decimal`: counted line by line, a text took more than twice the
+// C peer's time.
 #[tactic(auto, using(crate::proofs::LineLaws::digits_known))]
 fn digits(n: u16) -> usize
     ensures { (result ≡ length (decimal n)) × (result ≤ 4) }

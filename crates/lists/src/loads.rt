@@ -93,7 +93,7 @@ fn add_subcycles(
     add_parts(reader, weights, words, loads)
 }
 
-// Does a Basic Period take more than most. Every load is looked at: with no early way out the compiler takes several at once.
+// Does a Basic Period take more than most. Every load is looked at, several at once.
 #[tactic(auto, using(crate::proofs::LoadLaws::some_here, crate::proofs::LoadLaws::some_next))]
 fn some_above(loads: &[u32], most: u32) -> bool
     ensures { result ≡ some (length loads.now) (λ (j : ℕ). ltb most (get_or loads.now j 0)) }

@@ -24,7 +24,7 @@ pub(crate) struct Weights {
 }
 
 impl Weights {
-    // The weights of a list with this gap.
+    // The weights of a list with this gap, of the six F_codes that may be listed.
     #[tactic(auto, using(crate::proofs::LoadLaws::weights_of))]
     pub(crate) fn of(gap: u16) -> Weights
         requires { (4 ≤ gap) × (gap ≤ 128) }

@@ -13,7 +13,8 @@ use lists::{cycles_of, list_check, periods_of};
 use numbers::{read_numbers, sum_numbers};
 use refusals::Refusal;
 
-// How many words of a cycle go out, and the place after the cycle.
+// How many words of a cycle go out, and the place after the cycle. Bytes and place go by themselves, as `sum_numbers` and
+// `read_numbers` take them.
 #[derive(Clone, Copy)]
 struct Part {
     many: usize,
