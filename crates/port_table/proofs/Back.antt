@@ -70,8 +70,8 @@ module _ (ps : List Port) (i limit : ℕ) (o : rising 0 (drop (i + 1) ps) ≡ tr
       ∙ ap₂ (λ (n : ℕ) (c : Bool). ltb q.address n && (ltb q.f_code 5 && c)) (sym b) o
       ∙ ap (λ (c : Bool). ltb q.address limit && c) (mathlib.Core.Bool.and-true (ltb q.f_code 5))
 
-  pub fits : q.address < limit → q.f_code ≤ 4 → (rising 0 (drop i ps) ≡ true) × (q.address ≡ lowest (drop i ps))
-  fits l f = (here ∙ ap₂ (λ (c d : Bool). c && d) (lt-ltb q.address limit l) (lt-ltb q.f_code 5 (omega arith)), ap lowest (sym (drop-cons ps i no_port h)))
+  pub fits : (ltb q.address limit && ltb q.f_code 5) ≡ true → (rising 0 (drop i ps) ≡ true) × (q.address ≡ lowest (drop i ps))
+  fits e = (here ∙ e, ap lowest (sym (drop-cons ps i no_port h)))
 
   bad : rising 0 (drop i ps) ≡ false → None ≡ tested_of ps
   unfolding tested_of good
@@ -81,11 +81,8 @@ module _ (ps : List Port) (i limit : ℕ) (o : rising 0 (drop (i + 1) ps) ≡ tr
       by true t = not_both (t refl) e
       by false t = sym (ap (λ (c : Bool). cond c (Some (good_tested ps)) None) (and-false (leb (length ps) 256)))
 
-  pub too_high : limit ≤ q.address → None ≡ tested_of ps
-  too_high l = bad (here ∙ ap (λ (c : Bool). c && ltb q.f_code 5) (le-ltb q.address limit l))
-
-  pub too_many : 4 < q.f_code → None ≡ tested_of ps
-  too_many l = bad (here ∙ ap (λ (c : Bool). ltb q.address limit && c) (le-ltb q.f_code 5 (omega arith)) ∙ and-false (ltb q.address limit))
+  pub unfit : (ltb q.address limit && ltb q.f_code 5) ≡ false → None ≡ tested_of ps
+  unfit e = bad (here ∙ e)
 
 -- ---- sinks
 
@@ -137,10 +134,10 @@ none_taken ps sinks e k h l = ap (λ (s : List ℕ). get_or s k 0) e ∙ zeros k
     zeros (suc (suc (suc (suc k)))) h = absurd (omega arith)
 
 module _ (ps : List Port) (i : ℕ) (sinks : List ℕ) (bits : ℕ) (e : bits ≡ sink_bits (take 64 (drop i ps))) (t : Taken (i + 1) ps sinks) where
-  -- where a part begins
-  pub taken_here : i % 64 ≡ 0 → i / 64 < length sinks → Taken i ps (set sinks (i / 64) bits)
+  -- put in their place, which is the last time where a part begins
+  pub taken_here : i / 64 < length sinks → Taken i ps (set sinks (i / 64) bits)
   unfolding sinks_part
-  taken_here h l k f g = by_cases (eqb k (i / 64))
+  taken_here l k f g = by_cases (eqb k (i / 64))
       (λ c. let z : k ≡ i / 64 = borrow.Author.Tests.eqb-true k (i / 64) c in
       ap (λ (n : ℕ). get_or (set sinks (i / 64) bits) n 0) z ∙ get_or-set_same sinks (i / 64) bits 0 l ∙ e ∙ ap (λ (n : ℕ). sink_bits (take 64 (drop n ps))) (let y : i ≡ 64 * k = omega arith in y))
       (λ c. let z : k ≡ i / 64 → ⊥ = borrow.Author.Tests.eqb-false k (i / 64) c in
@@ -183,42 +180,92 @@ kept_none ps h =
     let n = none_lowest ps in
     record { ordered = n.0; below = n.1; marked = sym (ap (λ (l : List Port). sink_bits (take 64 l)) (drop_of_length-le ps {i = length ps} (omega arith))); taken = none_taken ps _ refl; long = refl; few = h }
 
-module _ (ps : List Port) (i limit bits : ℕ) (sinks : List ℕ) (kept : Kept ps i limit bits sinks) where
-  abbrev pub last : Port
-  last = get_or ps (i - 1) no_port
+module _ (ps : List Port) (i limit bits : ℕ) (sinks : List ℕ) (kept : Kept ps (i + 1) limit bits sinks) (h : i < length ps) where
+  abbrev port : Port
+  port = get_or ps i no_port
 
-  -- a record more, of a part that it is not the first one of, or is
-  module _ (h : 0 < i) (n : i ≤ length ps) (b : ℕ) (l : last.address < limit) (f : last.f_code ≤ 4) (eb : b ≡ one (is_sink last)) where
-    now : Kept ps (i - 1 + 1) limit bits sinks
-    now = subst (λ (k : ℕ). Kept ps k limit bits sinks) (let z : i ≡ i - 1 + 1 = omega arith in z) kept
+  abbrev fit : Bool
+  fit = ltb port.address limit && ltb port.f_code 5
 
-    pub kept_on : ((i - 1) % 64 ≡ 0 → ⊥) → Kept ps (i - 1) last.address (bits * 2 % 18446744073709551616 + b) sinks
-    kept_on m =
-        let o = fits ps (i - 1) limit now.ordered now.below (omega arith) l f in
-        let e = marks_next ps (i - 1) bits b now.marked (omega arith) eb in
-        record { ordered = o.0; below = o.1; marked = e; taken = taken_on ps (i - 1) sinks (bits * 2 % 18446744073709551616 + b) e now.taken m; long = kept.long; few = kept.few }
+  -- a record more
+  module _ (y : fit ≡ true) (b : ℕ) (eb : b ≡ one (is_sink port)) where
+    abbrev more : ℕ
+    more = bits * 2 % 18446744073709551616 + b
 
-    pub kept_here : (i - 1) % 64 ≡ 0 → Kept ps (i - 1) last.address (bits * 2 % 18446744073709551616 + b) (set sinks ((i - 1) / 64) (bits * 2 % 18446744073709551616 + b))
-    kept_here m =
-        let o = fits ps (i - 1) limit now.ordered now.below (omega arith) l f in
-        let e = marks_next ps (i - 1) bits b now.marked (omega arith) eb in
-        let s : ((i - 1) / 64 < length sinks) = omega (arith, kept.long, kept.few) in
-        record {
-          ordered = o.0;
-          below = o.1;
-          marked = e;
-          taken = taken_here ps (i - 1) sinks (bits * 2 % 18446744073709551616 + b) e now.taken m s;
-          long = length-set sinks ((i - 1) / 64) (bits * 2 % 18446744073709551616 + b) ∙ kept.long;
-          few = kept.few;
-        }
+    one_on : (i % 64 ≡ 0 → ⊥) → Kept ps i port.address more sinks
+    one_on m =
+        let o = fits ps i limit kept.ordered kept.below h y in
+        let e = marks_next ps i bits b kept.marked h eb in
+        record { ordered = o.0; below = o.1; marked = e; taken = taken_on ps i sinks more e kept.taken m; long = kept.long; few = kept.few }
+
+    one_here : Kept ps i port.address more (set sinks (i / 64) more)
+    one_here =
+        let o = fits ps i limit kept.ordered kept.below h y in
+        let e = marks_next ps i bits b kept.marked h eb in
+        record { ordered = o.0; below = o.1; marked = e; taken = taken_here ps i sinks more e kept.taken (omega (arith, kept.long, kept.few)); long = length-set sinks (i / 64) more ∙ kept.long; few = kept.few }
 
   -- a record out of order, or of no port's F_code
-  pub kept_high : 0 < i → i ≤ length ps → limit ≤ last.address → None ≡ tested_of ps
-  kept_high h n l = let k = subst (λ (j : ℕ). Kept ps j limit bits sinks) (let z : i ≡ i - 1 + 1 = omega arith in z) kept in too_high ps (i - 1) limit k.ordered k.below (omega arith) l
+  one_bad : fit ≡ false → None ≡ tested_of ps
+  one_bad n = unfit ps i limit kept.ordered kept.below h n
 
-  pub kept_many : 0 < i → i ≤ length ps → 4 < last.f_code → None ≡ tested_of ps
-  kept_many h n l = let k = subst (λ (j : ℕ). Kept ps j limit bits sinks) (let z : i ≡ i - 1 + 1 = omega arith in z) kept in too_many ps (i - 1) limit k.ordered k.below (omega arith) l
+-- ---- the last record, where their number is odd, and two records more
 
-  -- all records
-  pub kept_all : i ≤ 0 → Some (record { count = length ps; sinks = sinks }) ≡ tested_of ps
-  kept_all h = let k = subst (λ (j : ℕ). Kept ps j limit bits sinks) (let z : i ≡ 0 = omega arith in z) kept in tested_done ps sinks kept.few k.ordered kept.long k.taken
+module _ (ps : List Port) (few : length ps ≤ 256) (odd : length ps % 2 ≡ 1) where
+  abbrev last : ℕ
+  last = length ps - 1
+
+  none : Kept ps (last + 1) 4096 0 (0 ∷ 0 ∷ 0 ∷ 0 ∷ [])
+  none = subst (λ (n : ℕ). Kept ps n 4096 0 (0 ∷ 0 ∷ 0 ∷ 0 ∷ [])) (let z : length ps ≡ last + 1 = omega arith in z) (kept_none ps few)
+
+  pub last_bad : (ltb (get_or ps last no_port).address 4096 && ltb (get_or ps last no_port).f_code 5) ≡ false → None ≡ tested_of ps
+  last_bad = one_bad ps last 4096 0 (0 ∷ 0 ∷ 0 ∷ 0 ∷ []) none (omega arith)
+
+  pub kept_last : (ltb (get_or ps last no_port).address 4096 && ltb (get_or ps last no_port).f_code 5) ≡ true → (b : ℕ) → b ≡ one (is_sink (get_or ps last no_port))
+      → Kept ps (2 * (length ps / 2)) (get_or ps last no_port).address b (set (0 ∷ 0 ∷ 0 ∷ 0 ∷ []) (length ps / 64) b)
+  kept_last y b eb =
+      subst (λ (n : ℕ). Kept ps n (get_or ps last no_port).address b (set (0 ∷ 0 ∷ 0 ∷ 0 ∷ []) (length ps / 64) b)) (let z : last ≡ 2 * (length ps / 2) = omega arith in z)
+      (subst (λ (n : ℕ). Kept ps last (get_or ps last no_port).address b (set (0 ∷ 0 ∷ 0 ∷ 0 ∷ []) n b)) (let z : last / 64 ≡ length ps / 64 = omega arith in z)
+      (subst (λ (n : ℕ). Kept ps last (get_or ps last no_port).address n (set (0 ∷ 0 ∷ 0 ∷ 0 ∷ []) (last / 64) n)) (let z : 0 * 2 % 18446744073709551616 + b ≡ b = omega arith in z)
+      (one_here ps last 4096 0 (0 ∷ 0 ∷ 0 ∷ 0 ∷ []) none (omega arith) y b eb)))
+
+pub kept_even : (ps : List Port) → length ps ≤ 256 → (length ps % 2 ≡ 1 → ⊥) → Kept ps (2 * (length ps / 2)) 4096 0 (0 ∷ 0 ∷ 0 ∷ 0 ∷ [])
+kept_even ps few even = subst (λ (n : ℕ). Kept ps n 4096 0 (0 ∷ 0 ∷ 0 ∷ 0 ∷ [])) (let z : length ps ≡ 2 * (length ps / 2) = omega (arith, even) in z) (kept_none ps few)
+
+module _ (ps : List Port) (n limit bits : ℕ) (sinks : List ℕ) (kept : Kept ps (2 * n) limit bits sinks) (some : 0 < n) (h : 2 * n ≤ length ps) where
+  abbrev low : ℕ
+  low = 2 * (n - 1)
+
+  abbrev upper : Port
+  upper = get_or ps (low + 1) no_port
+
+  abbrev lower : Port
+  lower = get_or ps low no_port
+
+  behind : Kept ps (low + 1 + 1) limit bits sinks
+  behind = subst (λ (m : ℕ). Kept ps m limit bits sinks) (let z : 2 * n ≡ low + 1 + 1 = omega arith in z) kept
+
+  pub upper_bad : (ltb upper.address limit && ltb upper.f_code 5) ≡ false → None ≡ tested_of ps
+  upper_bad = one_bad ps (low + 1) limit bits sinks behind (omega arith)
+
+  module _ (yu : (ltb upper.address limit && ltb upper.f_code 5) ≡ true) where
+    by_one : (u : ℕ) → u ≡ one (is_sink upper) → Kept ps (low + 1) upper.address (bits * 2 % 18446744073709551616 + u) sinks
+    by_one u eu = one_on ps (low + 1) limit bits sinks behind (omega arith) yu u eu (λ e. omega (arith, e))
+
+    pub lower_bad : (ltb lower.address upper.address && ltb lower.f_code 5) ≡ false → None ≡ tested_of ps
+    lower_bad = one_bad ps low upper.address (bits * 2 % 18446744073709551616 + one (is_sink upper)) sinks (by_one _ refl) (omega arith)
+
+    module _ (yl : (ltb lower.address upper.address && ltb lower.f_code 5) ≡ true) (u l : ℕ) (eu : u ≡ one (is_sink upper)) (el : l ≡ one (is_sink lower)) where
+      two : (bits * 2 % 18446744073709551616 + u) * 2 % 18446744073709551616 + l ≡ bits * 4 % 18446744073709551616 + 2 * u + l
+      two = omega (arith, eu, one_most (is_sink upper))
+
+      pub pair_on : ((n - 1) % 32 ≡ 0 → ⊥) → Kept ps low lower.address (bits * 4 % 18446744073709551616 + 2 * u + l) sinks
+      pair_on m = subst (λ (k : ℕ). Kept ps low lower.address k sinks) two (one_on ps low upper.address _ sinks (by_one u eu) (omega arith) yl l el (λ e. m (omega (arith, e))))
+
+      pub pair_here : Kept ps low lower.address (bits * 4 % 18446744073709551616 + 2 * u + l) (set sinks ((n - 1) / 32) (bits * 4 % 18446744073709551616 + 2 * u + l))
+      pair_here =
+          subst (λ (j : ℕ). Kept ps low lower.address (bits * 4 % 18446744073709551616 + 2 * u + l) (set sinks j (bits * 4 % 18446744073709551616 + 2 * u + l))) (let z : low / 64 ≡ (n - 1) / 32 = omega arith in z)
+          (subst (λ (k : ℕ). Kept ps low lower.address k (set sinks (low / 64) k)) two (one_here ps low upper.address _ sinks (by_one u eu) (omega arith) yl l el))
+
+-- all records
+pub kept_all : (ps : List Port) (i limit bits : ℕ) (sinks : List ℕ) → Kept ps i limit bits sinks → i ≤ 0 → Some (record { count = length ps; sinks = sinks }) ≡ tested_of ps
+kept_all ps i limit bits sinks kept h = let k = subst (λ (j : ℕ). Kept ps j limit bits sinks) (let z : i ≡ 0 = omega arith in z) kept in tested_done ps sinks kept.few k.ordered kept.long k.taken
