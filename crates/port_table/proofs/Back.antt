@@ -1,11 +1,10 @@
 -- The goodness test, from the last record to the first.
 -- Assumes nothing.
-use Rattle.std.proofs.Common.{ℕ, zero, suc, ◌+◌, ◌-◌, ◌*◌, ◌/◌, ◌%◌, ◌^◌, ◌<◌, ◌≤◌, ◌≡◌, Bool, true, false, cond, ◌&&◌, refl, sym, ap, ap₂, subst, ◌∙◌, arith, List, [], ◌∷◌, ◌++◌, length, get_or, set, take, drop, drop-cons, drop_of_length-le, eqb, ltb, leb, Some, None}
+use Rattle.std.proofs.Common.{ℕ, zero, suc, ◌+◌, ◌-◌, ◌*◌, ◌/◌, ◌%◌, ◌^◌, ◌<◌, ◌≤◌, ◌≡◌, Bool, true, false, cond, ◌&&◌, refl, sym, ap, ap₂, subst, ◌∙◌, arith, List, [], ◌∷◌, ◌++◌, length, get_or, take, drop, drop-cons, drop_of_length-le, ltb, leb, Some, None}
 use mathlib.Core.Bool.{and-false}
-use lib.ListN.{take-append-drop, length-set}
+use lib.ListN.{take-append-drop}
 use lib.Pow.{pow_pos}
-use lib.Seq.{get_or-set_same, get_or-set_other}
-use borrow.Author.Tests.{lt-ltb, le-ltb, le-leb, lt-leb, ltb-true, ltb-false}
+use borrow.Author.Tests.{lt-ltb, le-leb, lt-leb, ltb-true, ltb-false}
 use Rattle.checks.specs.Bits.{one}
 use Rattle.port_table.specs.declared.Port.{Port}
 use Rattle.port_table.specs.Table.{rising, good, no_port, is_sink}
@@ -118,13 +117,15 @@ marks_next ps i bits b e h eb =
     ap (λ (l : List Port). sink_bits (take 64 l)) (drop-cons ps i no_port h ∙ ap (λ (n : ℕ). get_or ps i no_port ∷ drop n ps) (let z : suc i ≡ i + 1 = omega arith in z)) in
     omega arith
 
--- the parts that are whole
+-- the parts that begin with a record from one on, the first of them first
 abbrev pub Taken : ℕ → List Port → List ℕ → Type 0
-Taken i ps sinks = (k : ℕ) → k < 4 → i ≤ 64 * k → get_or sinks k 0 ≡ sinks_part ps k
+Taken i ps sinks = (j : ℕ) → j < 4 → get_or sinks j 0 ≡ sinks_part ps ((i + 63) / 64 + j)
 
 pub none_taken : (ps : List Port) (sinks : List ℕ) → sinks ≡ 0 ∷ 0 ∷ 0 ∷ 0 ∷ [] → Taken (length ps) ps sinks
 unfolding sinks_part sink_bits
-none_taken ps sinks e k h l = ap (λ (s : List ℕ). get_or s k 0) e ∙ zeros k h ∙ sym (ap (λ (l : List Port). sink_bits (take 64 l)) (drop_of_length-le ps {i = 64 * k} l))
+none_taken ps sinks e j h =
+    ap (λ (s : List ℕ). get_or s j 0) e ∙ zeros j h
+    ∙ sym (ap (λ (l : List Port). sink_bits (take 64 l)) (drop_of_length-le ps {i = 64 * ((length ps + 63) / 64 + j)} (omega arith)))
   where
     zeros : (k : ℕ) → k < 4 → ◌≡◌ {A = ℕ} (get_or (0 ∷ 0 ∷ 0 ∷ 0 ∷ []) k 0) 0
     zeros zero h = refl
@@ -134,17 +135,17 @@ none_taken ps sinks e k h l = ap (λ (s : List ℕ). get_or s k 0) e ∙ zeros k
     zeros (suc (suc (suc (suc k)))) h = absurd (omega arith)
 
 module _ (ps : List Port) (i : ℕ) (sinks : List ℕ) (bits : ℕ) (e : bits ≡ sink_bits (take 64 (drop i ps))) (t : Taken (i + 1) ps sinks) where
-  -- put in their place, which is the last time where a part begins
-  pub taken_here : i / 64 < length sinks → Taken i ps (set sinks (i / 64) bits)
+  -- where a part begins, the parts behind it move on by one
+  pub taken_here : i % 64 ≡ 0 → Taken i ps (bits ∷ get_or sinks 0 0 ∷ get_or sinks 1 0 ∷ get_or sinks 2 0 ∷ [])
   unfolding sinks_part
-  taken_here l k f g = by_cases (eqb k (i / 64))
-      (λ c. let z : k ≡ i / 64 = borrow.Author.Tests.eqb-true k (i / 64) c in
-      ap (λ (n : ℕ). get_or (set sinks (i / 64) bits) n 0) z ∙ get_or-set_same sinks (i / 64) bits 0 l ∙ e ∙ ap (λ (n : ℕ). sink_bits (take 64 (drop n ps))) (let y : i ≡ 64 * k = omega arith in y))
-      (λ c. let z : k ≡ i / 64 → ⊥ = borrow.Author.Tests.eqb-false k (i / 64) c in
-      get_or-set_other sinks (i / 64) k bits 0 z ∙ t k f (omega (arith, z)))
+  taken_here h zero f = e ∙ ap (λ (n : ℕ). sink_bits (take 64 (drop n ps))) (let y : i ≡ 64 * ((i + 63) / 64 + 0) = omega arith in y)
+  taken_here h (suc zero) f = t 0 (omega arith) ∙ ap (sinks_part ps) (let y : (i + 1 + 63) / 64 + 0 ≡ (i + 63) / 64 + 1 = omega arith in y)
+  taken_here h (suc (suc zero)) f = t 1 (omega arith) ∙ ap (sinks_part ps) (let y : (i + 1 + 63) / 64 + 1 ≡ (i + 63) / 64 + 2 = omega arith in y)
+  taken_here h (suc (suc (suc zero))) f = t 2 (omega arith) ∙ ap (sinks_part ps) (let y : (i + 1 + 63) / 64 + 2 ≡ (i + 63) / 64 + 3 = omega arith in y)
+  taken_here h (suc (suc (suc (suc j)))) f = absurd (omega arith)
 
   pub taken_on : (i % 64 ≡ 0 → ⊥) → Taken i ps sinks
-  taken_on h k f g = t k f (omega (arith, h))
+  taken_on h j f = t j f ∙ ap (sinks_part ps) (let y : (i + 1 + 63) / 64 + j ≡ (i + 63) / 64 + j = omega (arith, h) in y)
 
 pub all_taken : (ps : List Port) (sinks : List ℕ) → length sinks ≡ 4 → Taken 0 ps sinks → sinks ≡ sinks_in ps
 all_taken ps [] l t = absurd (omega arith)
@@ -152,7 +153,7 @@ all_taken ps (a ∷ []) l t = absurd (omega arith)
 all_taken ps (a ∷ b ∷ []) l t = absurd (omega arith)
 all_taken ps (a ∷ b ∷ c ∷ []) l t = absurd (omega arith)
 all_taken ps (a ∷ b ∷ c ∷ d ∷ e ∷ rest) l t = absurd (omega arith)
-all_taken ps (a ∷ b ∷ c ∷ d ∷ []) l t = λ i. t 0 (omega arith) (omega arith) i ∷ t 1 (omega arith) (omega arith) i ∷ t 2 (omega arith) (omega arith) i ∷ t 3 (omega arith) (omega arith) i ∷ []
+all_taken ps (a ∷ b ∷ c ∷ d ∷ []) l t = λ i. t 0 (omega arith) i ∷ t 1 (omega arith) i ∷ t 2 (omega arith) i ∷ t 3 (omega arith) i ∷ []
 
 pub tested_done : (ps : List Port) (sinks : List ℕ) → length ps ≤ 256 → rising 0 ps ≡ true → length sinks ≡ 4 → Taken 0 ps sinks → Some (record { count = length ps; sinks = sinks }) ≡ tested_of ps
 unfolding tested_of good
@@ -198,11 +199,11 @@ module _ (ps : List Port) (i limit bits : ℕ) (sinks : List ℕ) (kept : Kept p
         let e = marks_next ps i bits b kept.marked h eb in
         record { ordered = o.0; below = o.1; marked = e; taken = taken_on ps i sinks more e kept.taken m; long = kept.long; few = kept.few }
 
-    one_here : Kept ps i port.address more (set sinks (i / 64) more)
-    one_here =
+    one_here : i % 64 ≡ 0 → Kept ps i port.address more (more ∷ get_or sinks 0 0 ∷ get_or sinks 1 0 ∷ get_or sinks 2 0 ∷ [])
+    one_here m =
         let o = fits ps i limit kept.ordered kept.below h y in
         let e = marks_next ps i bits b kept.marked h eb in
-        record { ordered = o.0; below = o.1; marked = e; taken = taken_here ps i sinks more e kept.taken (omega (arith, kept.long, kept.few)); long = length-set sinks (i / 64) more ∙ kept.long; few = kept.few }
+        record { ordered = o.0; below = o.1; marked = e; taken = taken_here ps i sinks more e kept.taken m; long = refl; few = kept.few }
 
   -- a record out of order, or of no port's F_code
   one_bad : fit ≡ false → None ≡ tested_of ps
@@ -220,13 +221,27 @@ module _ (ps : List Port) (few : length ps ≤ 256) (odd : length ps % 2 ≡ 1) 
   pub last_bad : (ltb (get_or ps last no_port).address 4096 && ltb (get_or ps last no_port).f_code 5) ≡ false → None ≡ tested_of ps
   last_bad = one_bad ps last 4096 0 (0 ∷ 0 ∷ 0 ∷ 0 ∷ []) none (omega arith)
 
-  pub kept_last : (ltb (get_or ps last no_port).address 4096 && ltb (get_or ps last no_port).f_code 5) ≡ true → (b : ℕ) → b ≡ one (is_sink (get_or ps last no_port))
-      → Kept ps (2 * (length ps / 2)) (get_or ps last no_port).address b (set (0 ∷ 0 ∷ 0 ∷ 0 ∷ []) (length ps / 64) b)
-  kept_last y b eb =
-      subst (λ (n : ℕ). Kept ps n (get_or ps last no_port).address b (set (0 ∷ 0 ∷ 0 ∷ 0 ∷ []) (length ps / 64) b)) (let z : last ≡ 2 * (length ps / 2) = omega arith in z)
-      (subst (λ (n : ℕ). Kept ps last (get_or ps last no_port).address b (set (0 ∷ 0 ∷ 0 ∷ 0 ∷ []) n b)) (let z : last / 64 ≡ length ps / 64 = omega arith in z)
-      (subst (λ (n : ℕ). Kept ps last (get_or ps last no_port).address n (set (0 ∷ 0 ∷ 0 ∷ 0 ∷ []) (last / 64) n)) (let z : 0 * 2 % 18446744073709551616 + b ≡ b = omega arith in z)
-      (one_here ps last 4096 0 (0 ∷ 0 ∷ 0 ∷ 0 ∷ []) none (omega arith) y b eb)))
+  module _ (y : (ltb (get_or ps last no_port).address 4096 && ltb (get_or ps last no_port).f_code 5) ≡ true) (b : ℕ) (eb : b ≡ one (is_sink (get_or ps last no_port))) where
+    abbrev from_last : List ℕ → Type 0
+    from_last sinks = Kept ps (2 * (length ps / 2)) (get_or ps last no_port).address b sinks
+
+    halved : last ≡ 2 * (length ps / 2)
+    halved = omega arith
+
+    alone : 0 * 2 % 18446744073709551616 + b ≡ b
+    alone = omega arith
+
+    pub last_on : (length ps % 64 ≡ 1 → ⊥) → from_last (0 ∷ 0 ∷ 0 ∷ 0 ∷ [])
+    last_on m =
+        subst (λ (n : ℕ). Kept ps n (get_or ps last no_port).address b (0 ∷ 0 ∷ 0 ∷ 0 ∷ [])) halved
+        (subst (λ (n : ℕ). Kept ps last (get_or ps last no_port).address n (0 ∷ 0 ∷ 0 ∷ 0 ∷ [])) alone
+        (one_on ps last 4096 0 (0 ∷ 0 ∷ 0 ∷ 0 ∷ []) none (omega arith) y b eb (λ e. m (omega (arith, e)))))
+
+    pub last_here : length ps % 64 ≡ 1 → from_last (b ∷ 0 ∷ 0 ∷ 0 ∷ [])
+    last_here m =
+        subst (λ (n : ℕ). Kept ps n (get_or ps last no_port).address b (b ∷ 0 ∷ 0 ∷ 0 ∷ [])) halved
+        (subst (λ (n : ℕ). Kept ps last (get_or ps last no_port).address n (n ∷ 0 ∷ 0 ∷ 0 ∷ [])) alone
+        (one_here ps last 4096 0 (0 ∷ 0 ∷ 0 ∷ 0 ∷ []) none (omega arith) y b eb (omega (arith, m))))
 
 pub kept_even : (ps : List Port) → length ps ≤ 256 → (length ps % 2 ≡ 1 → ⊥) → Kept ps (2 * (length ps / 2)) 4096 0 (0 ∷ 0 ∷ 0 ∷ 0 ∷ [])
 kept_even ps few even = subst (λ (n : ℕ). Kept ps n 4096 0 (0 ∷ 0 ∷ 0 ∷ 0 ∷ [])) (let z : length ps ≡ 2 * (length ps / 2) = omega (arith, even) in z) (kept_none ps few)
@@ -261,10 +276,10 @@ module _ (ps : List Port) (n limit bits : ℕ) (sinks : List ℕ) (kept : Kept p
       pub pair_on : ((n - 1) % 32 ≡ 0 → ⊥) → Kept ps low lower.address (bits * 4 % 18446744073709551616 + 2 * u + l) sinks
       pair_on m = subst (λ (k : ℕ). Kept ps low lower.address k sinks) two (one_on ps low upper.address _ sinks (by_one u eu) (omega arith) yl l el (λ e. m (omega (arith, e))))
 
-      pub pair_here : Kept ps low lower.address (bits * 4 % 18446744073709551616 + 2 * u + l) (set sinks ((n - 1) / 32) (bits * 4 % 18446744073709551616 + 2 * u + l))
-      pair_here =
-          subst (λ (j : ℕ). Kept ps low lower.address (bits * 4 % 18446744073709551616 + 2 * u + l) (set sinks j (bits * 4 % 18446744073709551616 + 2 * u + l))) (let z : low / 64 ≡ (n - 1) / 32 = omega arith in z)
-          (subst (λ (k : ℕ). Kept ps low lower.address k (set sinks (low / 64) k)) two (one_here ps low upper.address _ sinks (by_one u eu) (omega arith) yl l el))
+      pub pair_here : (n - 1) % 32 ≡ 0 → Kept ps low lower.address (bits * 4 % 18446744073709551616 + 2 * u + l) ((bits * 4 % 18446744073709551616 + 2 * u + l) ∷ get_or sinks 0 0 ∷ get_or sinks 1 0 ∷ get_or sinks 2 0 ∷ [])
+      pair_here m =
+          subst (λ (k : ℕ). Kept ps low lower.address k (k ∷ get_or sinks 0 0 ∷ get_or sinks 1 0 ∷ get_or sinks 2 0 ∷ [])) two
+          (one_here ps low upper.address _ sinks (by_one u eu) (omega arith) yl l el (omega (arith, m)))
 
 -- all records
 pub kept_all : (ps : List Port) (i limit bits : ℕ) (sinks : List ℕ) → Kept ps i limit bits sinks → i ≤ 0 → Some (record { count = length ps; sinks = sinks }) ≡ tested_of ps
