@@ -1,11 +1,10 @@
 -- The goodness test, from the last record to the first.
 -- Assumes nothing.
-use Rattle.std.proofs.Common.{ℕ, zero, suc, ◌+◌, ◌-◌, ◌*◌, ◌/◌, ◌%◌, ◌^◌, ◌<◌, ◌≤◌, ◌≡◌, Bool, true, false, cond, ◌&&◌, refl, sym, ap, ap₂, subst, ◌∙◌, arith, List, [], ◌∷◌, ◌++◌, length, get_or, set, take, drop, drop-cons, drop_of_length-le, eqb, ltb, leb, Some, None}
+use Rattle.std.proofs.Common.{ℕ, zero, suc, ◌+◌, ◌-◌, ◌*◌, ◌/◌, ◌%◌, ◌^◌, ◌<◌, ◌≤◌, ◌≡◌, Bool, true, false, cond, ◌&&◌, refl, sym, ap, ap₂, subst, ◌∙◌, arith, List, [], ◌∷◌, ◌++◌, length, get_or, take, drop, drop-cons, drop_of_length-le, ltb, leb, Some, None}
 use mathlib.Core.Bool.{and-false}
-use lib.ListN.{take-append-drop, length-set}
+use lib.ListN.{take-append-drop}
 use lib.Pow.{pow_pos}
-use lib.Seq.{get_or-set_same, get_or-set_other}
-use borrow.Author.Tests.{lt-ltb, le-ltb, le-leb, lt-leb, ltb-true, ltb-false}
+use borrow.Author.Tests.{lt-ltb, le-leb, lt-leb, ltb-true, ltb-false}
 use Rattle.checks.specs.Bits.{one}
 use Rattle.port_table.specs.declared.Port.{Port}
 use Rattle.port_table.specs.Table.{rising, good, no_port, is_sink}
@@ -70,8 +69,8 @@ module _ (ps : List Port) (i limit : ℕ) (o : rising 0 (drop (i + 1) ps) ≡ tr
       ∙ ap₂ (λ (n : ℕ) (c : Bool). ltb q.address n && (ltb q.f_code 5 && c)) (sym b) o
       ∙ ap (λ (c : Bool). ltb q.address limit && c) (mathlib.Core.Bool.and-true (ltb q.f_code 5))
 
-  pub fits : q.address < limit → q.f_code ≤ 4 → (rising 0 (drop i ps) ≡ true) × (q.address ≡ lowest (drop i ps))
-  fits l f = (here ∙ ap₂ (λ (c d : Bool). c && d) (lt-ltb q.address limit l) (lt-ltb q.f_code 5 (omega arith)), ap lowest (sym (drop-cons ps i no_port h)))
+  pub fits : (ltb q.address limit && ltb q.f_code 5) ≡ true → (rising 0 (drop i ps) ≡ true) × (q.address ≡ lowest (drop i ps))
+  fits e = (here ∙ e, ap lowest (sym (drop-cons ps i no_port h)))
 
   bad : rising 0 (drop i ps) ≡ false → None ≡ tested_of ps
   unfolding tested_of good
@@ -81,11 +80,8 @@ module _ (ps : List Port) (i limit : ℕ) (o : rising 0 (drop (i + 1) ps) ≡ tr
       by true t = not_both (t refl) e
       by false t = sym (ap (λ (c : Bool). cond c (Some (good_tested ps)) None) (and-false (leb (length ps) 256)))
 
-  pub too_high : limit ≤ q.address → None ≡ tested_of ps
-  too_high l = bad (here ∙ ap (λ (c : Bool). c && ltb q.f_code 5) (le-ltb q.address limit l))
-
-  pub too_many : 4 < q.f_code → None ≡ tested_of ps
-  too_many l = bad (here ∙ ap (λ (c : Bool). ltb q.address limit && c) (le-ltb q.f_code 5 (omega arith)) ∙ and-false (ltb q.address limit))
+  pub unfit : (ltb q.address limit && ltb q.f_code 5) ≡ false → None ≡ tested_of ps
+  unfit e = bad (here ∙ e)
 
 -- ---- sinks
 
@@ -121,13 +117,15 @@ marks_next ps i bits b e h eb =
     ap (λ (l : List Port). sink_bits (take 64 l)) (drop-cons ps i no_port h ∙ ap (λ (n : ℕ). get_or ps i no_port ∷ drop n ps) (let z : suc i ≡ i + 1 = omega arith in z)) in
     omega arith
 
--- the parts that are whole
+-- the parts that begin with a record from one on, the first of them first
 abbrev pub Taken : ℕ → List Port → List ℕ → Type 0
-Taken i ps sinks = (k : ℕ) → k < 4 → i ≤ 64 * k → get_or sinks k 0 ≡ sinks_part ps k
+Taken i ps sinks = (j : ℕ) → j < 4 → get_or sinks j 0 ≡ sinks_part ps ((i + 63) / 64 + j)
 
 pub none_taken : (ps : List Port) (sinks : List ℕ) → sinks ≡ 0 ∷ 0 ∷ 0 ∷ 0 ∷ [] → Taken (length ps) ps sinks
 unfolding sinks_part sink_bits
-none_taken ps sinks e k h l = ap (λ (s : List ℕ). get_or s k 0) e ∙ zeros k h ∙ sym (ap (λ (l : List Port). sink_bits (take 64 l)) (drop_of_length-le ps {i = 64 * k} l))
+none_taken ps sinks e j h =
+    ap (λ (s : List ℕ). get_or s j 0) e ∙ zeros j h
+    ∙ sym (ap (λ (l : List Port). sink_bits (take 64 l)) (drop_of_length-le ps {i = 64 * ((length ps + 63) / 64 + j)} (omega arith)))
   where
     zeros : (k : ℕ) → k < 4 → ◌≡◌ {A = ℕ} (get_or (0 ∷ 0 ∷ 0 ∷ 0 ∷ []) k 0) 0
     zeros zero h = refl
@@ -137,17 +135,17 @@ none_taken ps sinks e k h l = ap (λ (s : List ℕ). get_or s k 0) e ∙ zeros k
     zeros (suc (suc (suc (suc k)))) h = absurd (omega arith)
 
 module _ (ps : List Port) (i : ℕ) (sinks : List ℕ) (bits : ℕ) (e : bits ≡ sink_bits (take 64 (drop i ps))) (t : Taken (i + 1) ps sinks) where
-  -- where a part begins
-  pub taken_here : i % 64 ≡ 0 → i / 64 < length sinks → Taken i ps (set sinks (i / 64) bits)
+  -- where a part begins, the parts behind it move on by one
+  pub taken_here : i % 64 ≡ 0 → Taken i ps (bits ∷ get_or sinks 0 0 ∷ get_or sinks 1 0 ∷ get_or sinks 2 0 ∷ [])
   unfolding sinks_part
-  taken_here h l k f g = by_cases (eqb k (i / 64))
-      (λ c. let z : k ≡ i / 64 = borrow.Author.Tests.eqb-true k (i / 64) c in
-      ap (λ (n : ℕ). get_or (set sinks (i / 64) bits) n 0) z ∙ get_or-set_same sinks (i / 64) bits 0 l ∙ e ∙ ap (λ (n : ℕ). sink_bits (take 64 (drop n ps))) (let y : i ≡ 64 * k = omega arith in y))
-      (λ c. let z : k ≡ i / 64 → ⊥ = borrow.Author.Tests.eqb-false k (i / 64) c in
-      get_or-set_other sinks (i / 64) k bits 0 z ∙ t k f (omega (arith, z)))
+  taken_here h zero f = e ∙ ap (λ (n : ℕ). sink_bits (take 64 (drop n ps))) (let y : i ≡ 64 * ((i + 63) / 64 + 0) = omega arith in y)
+  taken_here h (suc zero) f = t 0 (omega arith) ∙ ap (sinks_part ps) (let y : (i + 1 + 63) / 64 + 0 ≡ (i + 63) / 64 + 1 = omega arith in y)
+  taken_here h (suc (suc zero)) f = t 1 (omega arith) ∙ ap (sinks_part ps) (let y : (i + 1 + 63) / 64 + 1 ≡ (i + 63) / 64 + 2 = omega arith in y)
+  taken_here h (suc (suc (suc zero))) f = t 2 (omega arith) ∙ ap (sinks_part ps) (let y : (i + 1 + 63) / 64 + 2 ≡ (i + 63) / 64 + 3 = omega arith in y)
+  taken_here h (suc (suc (suc (suc j)))) f = absurd (omega arith)
 
   pub taken_on : (i % 64 ≡ 0 → ⊥) → Taken i ps sinks
-  taken_on h k f g = t k f (omega (arith, h))
+  taken_on h j f = t j f ∙ ap (sinks_part ps) (let y : (i + 1 + 63) / 64 + j ≡ (i + 63) / 64 + j = omega (arith, h) in y)
 
 pub all_taken : (ps : List Port) (sinks : List ℕ) → length sinks ≡ 4 → Taken 0 ps sinks → sinks ≡ sinks_in ps
 all_taken ps [] l t = absurd (omega arith)
@@ -155,7 +153,7 @@ all_taken ps (a ∷ []) l t = absurd (omega arith)
 all_taken ps (a ∷ b ∷ []) l t = absurd (omega arith)
 all_taken ps (a ∷ b ∷ c ∷ []) l t = absurd (omega arith)
 all_taken ps (a ∷ b ∷ c ∷ d ∷ e ∷ rest) l t = absurd (omega arith)
-all_taken ps (a ∷ b ∷ c ∷ d ∷ []) l t = λ i. t 0 (omega arith) (omega arith) i ∷ t 1 (omega arith) (omega arith) i ∷ t 2 (omega arith) (omega arith) i ∷ t 3 (omega arith) (omega arith) i ∷ []
+all_taken ps (a ∷ b ∷ c ∷ d ∷ []) l t = λ i. t 0 (omega arith) i ∷ t 1 (omega arith) i ∷ t 2 (omega arith) i ∷ t 3 (omega arith) i ∷ []
 
 pub tested_done : (ps : List Port) (sinks : List ℕ) → length ps ≤ 256 → rising 0 ps ≡ true → length sinks ≡ 4 → Taken 0 ps sinks → Some (record { count = length ps; sinks = sinks }) ≡ tested_of ps
 unfolding tested_of good
@@ -183,42 +181,106 @@ kept_none ps h =
     let n = none_lowest ps in
     record { ordered = n.0; below = n.1; marked = sym (ap (λ (l : List Port). sink_bits (take 64 l)) (drop_of_length-le ps {i = length ps} (omega arith))); taken = none_taken ps _ refl; long = refl; few = h }
 
-module _ (ps : List Port) (i limit bits : ℕ) (sinks : List ℕ) (kept : Kept ps i limit bits sinks) where
-  abbrev pub last : Port
-  last = get_or ps (i - 1) no_port
+module _ (ps : List Port) (i limit bits : ℕ) (sinks : List ℕ) (kept : Kept ps (i + 1) limit bits sinks) (h : i < length ps) where
+  abbrev port : Port
+  port = get_or ps i no_port
 
-  -- a record more, of a part that it is not the first one of, or is
-  module _ (h : 0 < i) (n : i ≤ length ps) (b : ℕ) (l : last.address < limit) (f : last.f_code ≤ 4) (eb : b ≡ one (is_sink last)) where
-    now : Kept ps (i - 1 + 1) limit bits sinks
-    now = subst (λ (k : ℕ). Kept ps k limit bits sinks) (let z : i ≡ i - 1 + 1 = omega arith in z) kept
+  abbrev fit : Bool
+  fit = ltb port.address limit && ltb port.f_code 5
 
-    pub kept_on : ((i - 1) % 64 ≡ 0 → ⊥) → Kept ps (i - 1) last.address (bits * 2 % 18446744073709551616 + b) sinks
-    kept_on m =
-        let o = fits ps (i - 1) limit now.ordered now.below (omega arith) l f in
-        let e = marks_next ps (i - 1) bits b now.marked (omega arith) eb in
-        record { ordered = o.0; below = o.1; marked = e; taken = taken_on ps (i - 1) sinks (bits * 2 % 18446744073709551616 + b) e now.taken m; long = kept.long; few = kept.few }
+  -- a record more
+  module _ (y : fit ≡ true) (b : ℕ) (eb : b ≡ one (is_sink port)) where
+    abbrev more : ℕ
+    more = bits * 2 % 18446744073709551616 + b
 
-    pub kept_here : (i - 1) % 64 ≡ 0 → Kept ps (i - 1) last.address (bits * 2 % 18446744073709551616 + b) (set sinks ((i - 1) / 64) (bits * 2 % 18446744073709551616 + b))
-    kept_here m =
-        let o = fits ps (i - 1) limit now.ordered now.below (omega arith) l f in
-        let e = marks_next ps (i - 1) bits b now.marked (omega arith) eb in
-        let s : ((i - 1) / 64 < length sinks) = omega (arith, kept.long, kept.few) in
-        record {
-          ordered = o.0;
-          below = o.1;
-          marked = e;
-          taken = taken_here ps (i - 1) sinks (bits * 2 % 18446744073709551616 + b) e now.taken m s;
-          long = length-set sinks ((i - 1) / 64) (bits * 2 % 18446744073709551616 + b) ∙ kept.long;
-          few = kept.few;
-        }
+    one_on : (i % 64 ≡ 0 → ⊥) → Kept ps i port.address more sinks
+    one_on m =
+        let o = fits ps i limit kept.ordered kept.below h y in
+        let e = marks_next ps i bits b kept.marked h eb in
+        record { ordered = o.0; below = o.1; marked = e; taken = taken_on ps i sinks more e kept.taken m; long = kept.long; few = kept.few }
+
+    one_here : i % 64 ≡ 0 → Kept ps i port.address more (more ∷ get_or sinks 0 0 ∷ get_or sinks 1 0 ∷ get_or sinks 2 0 ∷ [])
+    one_here m =
+        let o = fits ps i limit kept.ordered kept.below h y in
+        let e = marks_next ps i bits b kept.marked h eb in
+        record { ordered = o.0; below = o.1; marked = e; taken = taken_here ps i sinks more e kept.taken m; long = refl; few = kept.few }
 
   -- a record out of order, or of no port's F_code
-  pub kept_high : 0 < i → i ≤ length ps → limit ≤ last.address → None ≡ tested_of ps
-  kept_high h n l = let k = subst (λ (j : ℕ). Kept ps j limit bits sinks) (let z : i ≡ i - 1 + 1 = omega arith in z) kept in too_high ps (i - 1) limit k.ordered k.below (omega arith) l
+  one_bad : fit ≡ false → None ≡ tested_of ps
+  one_bad n = unfit ps i limit kept.ordered kept.below h n
 
-  pub kept_many : 0 < i → i ≤ length ps → 4 < last.f_code → None ≡ tested_of ps
-  kept_many h n l = let k = subst (λ (j : ℕ). Kept ps j limit bits sinks) (let z : i ≡ i - 1 + 1 = omega arith in z) kept in too_many ps (i - 1) limit k.ordered k.below (omega arith) l
+-- ---- the last record, where their number is odd, and two records more
 
-  -- all records
-  pub kept_all : i ≤ 0 → Some (record { count = length ps; sinks = sinks }) ≡ tested_of ps
-  kept_all h = let k = subst (λ (j : ℕ). Kept ps j limit bits sinks) (let z : i ≡ 0 = omega arith in z) kept in tested_done ps sinks kept.few k.ordered kept.long k.taken
+module _ (ps : List Port) (few : length ps ≤ 256) (odd : length ps % 2 ≡ 1) where
+  abbrev last : ℕ
+  last = length ps - 1
+
+  none : Kept ps (last + 1) 4096 0 (0 ∷ 0 ∷ 0 ∷ 0 ∷ [])
+  none = subst (λ (n : ℕ). Kept ps n 4096 0 (0 ∷ 0 ∷ 0 ∷ 0 ∷ [])) (let z : length ps ≡ last + 1 = omega arith in z) (kept_none ps few)
+
+  pub last_bad : (ltb (get_or ps last no_port).address 4096 && ltb (get_or ps last no_port).f_code 5) ≡ false → None ≡ tested_of ps
+  last_bad = one_bad ps last 4096 0 (0 ∷ 0 ∷ 0 ∷ 0 ∷ []) none (omega arith)
+
+  module _ (y : (ltb (get_or ps last no_port).address 4096 && ltb (get_or ps last no_port).f_code 5) ≡ true) (b : ℕ) (eb : b ≡ one (is_sink (get_or ps last no_port))) where
+    abbrev from_last : List ℕ → Type 0
+    from_last sinks = Kept ps (2 * (length ps / 2)) (get_or ps last no_port).address b sinks
+
+    halved : last ≡ 2 * (length ps / 2)
+    halved = omega arith
+
+    alone : 0 * 2 % 18446744073709551616 + b ≡ b
+    alone = omega arith
+
+    pub last_on : (length ps % 64 ≡ 1 → ⊥) → from_last (0 ∷ 0 ∷ 0 ∷ 0 ∷ [])
+    last_on m =
+        subst (λ (n : ℕ). Kept ps n (get_or ps last no_port).address b (0 ∷ 0 ∷ 0 ∷ 0 ∷ [])) halved
+        (subst (λ (n : ℕ). Kept ps last (get_or ps last no_port).address n (0 ∷ 0 ∷ 0 ∷ 0 ∷ [])) alone
+        (one_on ps last 4096 0 (0 ∷ 0 ∷ 0 ∷ 0 ∷ []) none (omega arith) y b eb (λ e. m (omega (arith, e)))))
+
+    pub last_here : length ps % 64 ≡ 1 → from_last (b ∷ 0 ∷ 0 ∷ 0 ∷ [])
+    last_here m =
+        subst (λ (n : ℕ). Kept ps n (get_or ps last no_port).address b (b ∷ 0 ∷ 0 ∷ 0 ∷ [])) halved
+        (subst (λ (n : ℕ). Kept ps last (get_or ps last no_port).address n (n ∷ 0 ∷ 0 ∷ 0 ∷ [])) alone
+        (one_here ps last 4096 0 (0 ∷ 0 ∷ 0 ∷ 0 ∷ []) none (omega arith) y b eb (omega (arith, m))))
+
+pub kept_even : (ps : List Port) → length ps ≤ 256 → (length ps % 2 ≡ 1 → ⊥) → Kept ps (2 * (length ps / 2)) 4096 0 (0 ∷ 0 ∷ 0 ∷ 0 ∷ [])
+kept_even ps few even = subst (λ (n : ℕ). Kept ps n 4096 0 (0 ∷ 0 ∷ 0 ∷ 0 ∷ [])) (let z : length ps ≡ 2 * (length ps / 2) = omega (arith, even) in z) (kept_none ps few)
+
+module _ (ps : List Port) (n limit bits : ℕ) (sinks : List ℕ) (kept : Kept ps (2 * n) limit bits sinks) (some : 0 < n) (h : 2 * n ≤ length ps) where
+  abbrev low : ℕ
+  low = 2 * (n - 1)
+
+  abbrev upper : Port
+  upper = get_or ps (low + 1) no_port
+
+  abbrev lower : Port
+  lower = get_or ps low no_port
+
+  behind : Kept ps (low + 1 + 1) limit bits sinks
+  behind = subst (λ (m : ℕ). Kept ps m limit bits sinks) (let z : 2 * n ≡ low + 1 + 1 = omega arith in z) kept
+
+  pub upper_bad : (ltb upper.address limit && ltb upper.f_code 5) ≡ false → None ≡ tested_of ps
+  upper_bad = one_bad ps (low + 1) limit bits sinks behind (omega arith)
+
+  module _ (yu : (ltb upper.address limit && ltb upper.f_code 5) ≡ true) where
+    by_one : (u : ℕ) → u ≡ one (is_sink upper) → Kept ps (low + 1) upper.address (bits * 2 % 18446744073709551616 + u) sinks
+    by_one u eu = one_on ps (low + 1) limit bits sinks behind (omega arith) yu u eu (λ e. omega (arith, e))
+
+    pub lower_bad : (ltb lower.address upper.address && ltb lower.f_code 5) ≡ false → None ≡ tested_of ps
+    lower_bad = one_bad ps low upper.address (bits * 2 % 18446744073709551616 + one (is_sink upper)) sinks (by_one _ refl) (omega arith)
+
+    module _ (yl : (ltb lower.address upper.address && ltb lower.f_code 5) ≡ true) (u l : ℕ) (eu : u ≡ one (is_sink upper)) (el : l ≡ one (is_sink lower)) where
+      two : (bits * 2 % 18446744073709551616 + u) * 2 % 18446744073709551616 + l ≡ bits * 4 % 18446744073709551616 + 2 * u + l
+      two = omega (arith, eu, one_most (is_sink upper))
+
+      pub pair_on : ((n - 1) % 32 ≡ 0 → ⊥) → Kept ps low lower.address (bits * 4 % 18446744073709551616 + 2 * u + l) sinks
+      pair_on m = subst (λ (k : ℕ). Kept ps low lower.address k sinks) two (one_on ps low upper.address _ sinks (by_one u eu) (omega arith) yl l el (λ e. m (omega (arith, e))))
+
+      pub pair_here : (n - 1) % 32 ≡ 0 → Kept ps low lower.address (bits * 4 % 18446744073709551616 + 2 * u + l) ((bits * 4 % 18446744073709551616 + 2 * u + l) ∷ get_or sinks 0 0 ∷ get_or sinks 1 0 ∷ get_or sinks 2 0 ∷ [])
+      pair_here m =
+          subst (λ (k : ℕ). Kept ps low lower.address k (k ∷ get_or sinks 0 0 ∷ get_or sinks 1 0 ∷ get_or sinks 2 0 ∷ [])) two
+          (one_here ps low upper.address _ sinks (by_one u eu) (omega arith) yl l el (omega (arith, m)))
+
+-- all records
+pub kept_all : (ps : List Port) (i limit bits : ℕ) (sinks : List ℕ) → Kept ps i limit bits sinks → i ≤ 0 → Some (record { count = length ps; sinks = sinks }) ≡ tested_of ps
+kept_all ps i limit bits sinks kept h = let k = subst (λ (j : ℕ). Kept ps j limit bits sinks) (let z : i ≡ 0 = omega arith in z) kept in tested_done ps sinks kept.few k.ordered kept.long k.taken

@@ -46,7 +46,8 @@ bit_of (p ∷ ps) (suc i) h =
     ∙ ap (λ (n : ℕ). n / 2 ^ i % 2) (let z : (one (is_sink p) + 2 * sink_bits ps) / 2 ^ 1 ≡ sink_bits ps = omega (arith, one_most (is_sink p)) in z)
     ∙ bit_of ps i (omega arith)
 
-part_at : (ps : List Port) (k : ℕ) → k < 4 → get_or (sinks_in ps) k 0 ≡ sinks_part ps k
+-- the parts in their order
+pub part_at : (ps : List Port) (k : ℕ) → k < 4 → get_or (sinks_in ps) k 0 ≡ sinks_part ps k
 part_at ps zero h = refl
 part_at ps (suc zero) h = refl
 part_at ps (suc (suc zero)) h = refl
