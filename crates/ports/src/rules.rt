@@ -3,7 +3,6 @@ ghost use Rattle.std.specs.Prelude.{◌≡◌, [], ◌∷◌, ◌+◌, ◌<◌, 
 ghost use Rattle.refusals.specs.Told.{told, single};
 ghost use Rattle.rows.specs.Rows.{data_bytes};
 ghost use Rattle.frames.specs.Slave.{slave_data};
-ghost use Rattle.port_table.specs.Table.{port_bytes};
 ghost use Rattle.ports.specs.Lent.{answered, unless_refused, replaced};
 ghost use Rattle.ports.specs.Arriving.{arrive, arrive_store, arrive_ages};
 ghost use Rattle.ports.specs.Answering.{answer, answer_out};
