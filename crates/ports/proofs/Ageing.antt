@@ -141,15 +141,12 @@ module _ (t : Tested) (ps : List Port) (e : Some t ≡ tested_of ps) (first ages
   part_none : t.count ≤ 64 * k → ages ≡ aged ps first
   part_none h = let f = tested_few t ps e in done ∙ ap (λ (l : List Port). aged l first) (take_all (64 * k) ps (omega (arith, f.0)))
 
-  pub part_over : t.count ≤ 64 * k → ages ≡ aged (take (64 * (k + 1)) ps) first
-  part_over h = let f = tested_few t ps e in part_none h ∙ sym (ap (λ (l : List Port). aged l first) (take_all (64 * (k + 1)) ps (omega (arith, f.0))))
-
   -- and what a call answers and leaves then
-  pub aged_all : 4 ≤ k → t.count ≤ length first → (gives (0 ∷ []) ≡ tick ps first) × (ages ≡ tick_ages ps first)
+  pub aged_all : t.count ≤ 64 * k → t.count ≤ length first → (gives (0 ∷ []) ≡ tick ps first) × (ages ≡ tick_ages ps first)
   unfolding tick tick_ages tick_refusal
   aged_all h l =
       let f = tested_few t ps e in
       let r : tick_refusal ps first ≡ 0 = simp ((tested_good t ps e).0, le-ltb (length first) (length ps) (omega (arith, f.0))) in (
         answered_yes r (0 ∷ []),
-        part_none (omega (arith, f.0, f.1)) ∙ changed r (aged ps first) first,
+        part_none h ∙ changed r (aged ps first) first,
       )

@@ -81,12 +81,10 @@ pub(crate) fn tick(table: &[Port], ages: &mut [u16]) -> Result<(), Refusal>
     if ages.len() < count {
         return Err(Refusal::TooShort);
     }
-    for part in 0..4 {
+    for part in 0..(count + 63) / 64 {
         let from = 64 * part;
-        if from < count {
-            let to = part_end(from, count);
-            age_part(tested.sinks[part], from, to, ages);
-        }
+        let to = part_end(from, count);
+        age_part(tested.sinks[part], from, to, ages);
     }
     Ok(())
 }
