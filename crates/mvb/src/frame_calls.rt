@@ -27,6 +27,7 @@ pub fn mvb_check_of(block: &[u8]) -> u32
     checks::check_of(block) as u32
 }
 
+#[tactic(auto, using(refusals::proofs::Codes::value_told, refusals::proofs::Codes::refusal_told))]
 pub fn mvb_master_read(frame: &[u8]) -> u32
     ensures { told_code result ≡ master_read frame.now }
 {
