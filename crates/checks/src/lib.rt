@@ -169,16 +169,23 @@ static LEFT: [[u8; 256]; 8] = [
     ],
 ];
 
-// The check bits of a block of any length, byte after byte: the remainder so far joins the next byte.
-#[tactic(auto, using(crate::proofs::Tables::with_parity))]
+// The check bits of a block of any length, two bytes at a time: the remainder so far joins the first of the two, and what the
+// second leaves is looked up beside it. Byte after byte, each lookup would wait for the one before.
 fn plain_by_bytes(block: &[u8]) -> u8
     ensures { result ≡ number (plain (bits_of block.now)) }
 {
     let mut rest = 0;
     let mut ones = 0;
-    for byte in block {
-        rest = LEFT[0][(rest ^ byte) as usize] & 0xfe;
-        ones ^= byte;
+    for i in 0..block.len() / 2 {
+        let first = block[2 * i];
+        let second = block[2 * i + 1];
+        rest = (LEFT[1][(rest ^ first) as usize] ^ LEFT[0][second as usize]) & 0xfe;
+        ones ^= first ^ second;
+    }
+    if block.len() % 2 == 1 {
+        let last = block[block.len() - 1];
+        rest = LEFT[0][(rest ^ last) as usize] & 0xfe;
+        ones ^= last;
     }
     rest ^ ((rest ^ ones).count_ones() % 2) as u8
 }
