@@ -211,6 +211,11 @@ module _ (ps : List Port) (i limit bits : ℕ) (sinks : List ℕ) (kept : Kept p
 
 -- ---- the last record, where their number is odd, and two records more
 
+-- what does not pass under a limit does not pass under 4,096
+below_less : (a limit : ℕ) (c : Bool) → 4096 ≤ limit → (ltb a limit && c) ≡ false → (ltb a 4096 && c) ≡ false
+below_less a limit c g e =
+    by_cases (ltb a 4096) (λ t. ap (λ (b : Bool). b && c) t ∙ sym (ap (λ (b : Bool). b && c) (lt-ltb a limit (omega (arith, ltb-true a 4096 t)))) ∙ e) (λ f. ap (λ (b : Bool). b && c) f)
+
 module _ (ps : List Port) (few : length ps ≤ 256) (odd : length ps % 2 ≡ 1) where
   abbrev last : ℕ
   last = length ps - 1
@@ -218,8 +223,9 @@ module _ (ps : List Port) (few : length ps ≤ 256) (odd : length ps % 2 ≡ 1) 
   none : Kept ps (last + 1) 4096 0 (0 ∷ 0 ∷ 0 ∷ 0 ∷ [])
   none = subst (λ (n : ℕ). Kept ps n 4096 0 (0 ∷ 0 ∷ 0 ∷ 0 ∷ [])) (let z : length ps ≡ last + 1 = omega arith in z) (kept_none ps few)
 
-  pub last_bad : (ltb (get_or ps last no_port).address 4096 && ltb (get_or ps last no_port).f_code 5) ≡ false → None ≡ tested_of ps
-  last_bad = one_bad ps last 4096 0 (0 ∷ 0 ∷ 0 ∷ 0 ∷ []) none (omega arith)
+  -- out of order below any limit from 4,096 on
+  pub last_bad : (limit : ℕ) → 4096 ≤ limit → (ltb (get_or ps last no_port).address limit && ltb (get_or ps last no_port).f_code 5) ≡ false → None ≡ tested_of ps
+  last_bad limit g e = one_bad ps last 4096 0 (0 ∷ 0 ∷ 0 ∷ 0 ∷ []) none (omega arith) (below_less (get_or ps last no_port).address limit (ltb (get_or ps last no_port).f_code 5) g e)
 
   module _ (y : (ltb (get_or ps last no_port).address 4096 && ltb (get_or ps last no_port).f_code 5) ≡ true) (b : ℕ) (eb : b ≡ one (is_sink (get_or ps last no_port))) where
     abbrev from_last : List ℕ → Type 0

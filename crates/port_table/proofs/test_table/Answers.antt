@@ -6,7 +6,7 @@ use Rattle.port_table.proofs.test_table.Goals as goal
 use Rattle.port_table.proofs.test_table.Goals.{then-count-eq1+else-not-fits+then-count-eq1-2, then-count-eq1+else-not-fits+else-count-eq1-2, else-count-eq1, then-not-fits-2-via-then-not-fits-2, then-not-fits-2-via-else-not-fits-2+then-not-fits-3}
 
 pub returns-then-not-fits : goal.returns-then-not-fits
-returns-then-not-fits c = last_bad c.args.table.now c.if-count-gt256.false c.if-count-eq1.true (sym c.fits.ensures ∙ c.if-not-fits.true)
+returns-then-not-fits c = last_bad c.args.table.now c.if-count-gt256.false c.if-count-eq1.true _ (omega arith) (sym c.fits.ensures ∙ c.if-not-fits.true)
 
 pub loop-pair-init : goal.loop-pair-init
 loop-pair-init c =
