@@ -18,11 +18,11 @@ use Rattle.groups.proofs.Words.{group_zero, group_pos}
 abbrev half_at : ℕ → ℕ
 half_at place = (1 * 2 ^ place) % 65536
 
--- c has its highest zero at this place
+-- c has its highest zero at this place; what would be asked is a group whatever stands below that place
 record Zero (m c place : ℕ) : Type 0 where
   low : place ≤ 11
   next : follows m c ≡ at (11 - place) (c % half_at place + half_at place)
-  group : Group (11 - place) (c % half_at place + half_at place)
+  group : (n : ℕ) → Group (11 - place) (n % half_at place + half_at place)
 
 zero_at : (m c j : ℕ) → Group m c → 2 ^ j ≤ 2 ^ (12 - m) - 1 - c → 2 ^ (12 - m) - 1 - c < 2 ^ suc j → Zero m c j
 zero_at m c j g l h =
@@ -32,7 +32,7 @@ zero_at m c j g l h =
     record {
       low = z.0;
       next = rw (← e) z.1;
-      group = (omega arith, rw (← e, d) (omega (arith, mod-lt c (pow_pos j), doubled j)));
+      group = λ n. (omega arith, rw (← e, d) (omega (arith, mod-lt n (pow_pos j), doubled j)));
     }
 
 module _ (m c bound : ℕ) (g : is_group m c ≡ true) (b : bound ≡ 2 ^ (12 - m)) where
@@ -63,8 +63,8 @@ module _ (m c bound : ℕ) (g : is_group m c ≡ true) (b : bound ≡ 2 ^ (12 - 
     pub upper_follows : follows m c ≡ at (11 - place) (c % half_at place + half_at place)
     upper_follows = found.next
 
-    pub upper_is_group : is_group (11 - place) (c % half_at place + half_at place) ≡ true
-    upper_is_group = is_group_lem _ _ found.group
+    pub upper_is_group : (n : ℕ) → is_group (11 - place) (n % half_at place + half_at place) ≡ true
+    upper_is_group n = is_group_lem _ _ (found.group n)
 
 -- ---- a group that is split
 pub lower_is_group : (m c : ℕ) → is_group m c ≡ true → ((m ≡ 0) → ⊥) → is_group (m - 1) c ≡ true
