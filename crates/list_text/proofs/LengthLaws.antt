@@ -9,9 +9,12 @@ use Rattle.numbers.specs.Number.{sum}
 use Rattle.lists.specs.Values.{Cycle, words_of}
 use Rattle.lists.specs.Sends.{cut_by, subcycles}
 use Rattle.list_text.specs.Text.{space, newline, word_line, word_lines, subcycle_lines, cycle_lines}
-use Rattle.list_text.proofs.LineLaws.{decimal_few, field_length, line_length}
+use Rattle.list_text.proofs.LineLaws.{decimal_few, decimal_some, field_length, line_length}
 
-line_few : (cycle sub w : ℕ) → length (word_line cycle sub w) ≤ 15
+pub line_some : (cycle sub w : ℕ) → 8 ≤ length (word_line cycle sub w)
+line_some cycle sub w = omega (arith, line_length cycle sub w, field_length cycle space, field_length sub newline, decimal_some cycle)
+
+pub line_few : (cycle sub w : ℕ) → length (word_line cycle sub w) ≤ 15
 line_few cycle sub w = omega (arith, line_length cycle sub w, field_length cycle space, field_length sub newline, decimal_few cycle, decimal_few sub)
 
 pub lines_few : (cycle sub : ℕ) (ws : List ℕ) → length (word_lines cycle sub ws) ≤ 15 * length ws

@@ -87,6 +87,15 @@ decimal_few n = go (ltb n 100)
     go true = omega (arith, two_few n)
     go false = omega (arith, two_few (n / 100), length-append (two (n / 100)) (digit (n / 10 % 10) ∷ []), length-append (two (n / 100) ++ digit (n / 10 % 10) ∷ []) (digit (n % 10) ∷ []))
 
+pub decimal_some : (n : ℕ) → 1 ≤ length (decimal n)
+unfolding decimal two
+decimal_some n = go (ltb n 100) (ltb n 10)
+  where
+    go : (t u : Bool) → 1 ≤ length (cond t (cond u (digit n ∷ []) (digit (n / 10) ∷ digit (n % 10) ∷ [])) ((two (n / 100) ++ digit (n / 10 % 10) ∷ []) ++ digit (n % 10) ∷ []))
+    go true true = omega arith
+    go true false = omega arith
+    go false u = omega (arith, length-append (two (n / 100) ++ digit (n / 10 % 10) ∷ []) (digit (n % 10) ∷ []))
+
 pub decimal_one : (n : ℕ) → n < 10 → length (decimal n) ≡ 1
 decimal_one n h = let a : n < 100 = omega arith in ap length (decimal_small n a ∙ two_small n h)
 
@@ -169,8 +178,6 @@ four_set (w ∷ x ∷ y ∷ z ∷ bytes) zero a b c d l h = absurd (omega arith)
 four_set (w ∷ x ∷ y ∷ z ∷ bytes) (suc zero) a b c d l h = absurd (omega arith)
 four_set (w ∷ x ∷ y ∷ z ∷ bytes) (suc (suc zero)) a b c d l h = absurd (omega arith)
 four_set (w ∷ x ∷ y ∷ z ∷ bytes) (suc (suc (suc zero))) a b c d l h = absurd (omega arith)
-
-pub ruleset front_set = four_set
 
 -- a line with another word in its first four digits is that word's line
 pub line_set : (cycle sub w v : ℕ) (line : List ℕ) → line ≡ word_line cycle sub w → hex v ++ drop 4 line ≡ word_line cycle sub v

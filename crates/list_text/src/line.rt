@@ -60,6 +60,24 @@ pub(crate) fn word_length(cycle: u16, sub: u16) -> usize
     digits(cycle) + digits(sub) + 7
 }
 
+// Copies eight bytes. All are read before one is written, so that they can move at once.
+fn copy_eight(from: &[u8], to: &mut [u8])
+    requires { (length from.now ≡ 8) × (length to.old ≡ 8) }
+    ensures { to.new ≡ from.now }
+{
+    let &[a, b, c, d, e, f, g, h] = from else {
+        return;
+    };
+    to[0] = a;
+    to[1] = b;
+    to[2] = c;
+    to[3] = d;
+    to[4] = e;
+    to[5] = f;
+    to[6] = g;
+    to[7] = h;
+}
+
 impl Line {
     fn new() -> Line
         ensures { result ≡ [] }
@@ -147,18 +165,6 @@ impl Line {
         line
     }
 
-    // Another word in the place of a line's first four digits.
-    #[tactic(auto, using(crate::proofs::LineLaws::front_set))]
-    pub(crate) fn set_word(&mut self, word: u16)
-        requires { 4 ≤ length self.old }
-        ensures { self.new ≡ hex word ++ drop 4 self.old }
-    {
-        self.bytes[0] = digit_of(word / 4096);
-        self.bytes[1] = digit_of(word / 256 % 16);
-        self.bytes[2] = digit_of(word / 16 % 16);
-        self.bytes[3] = digit_of(word % 16);
-    }
-
     // A refusal by its number.
     #[tactic(auto, unfolding(crate::specs::Text::refused_line))]
     pub(crate) fn refused(n: u16) -> Line
@@ -192,6 +198,31 @@ impl Line {
         for (i, byte) in self.bytes[..self.many].iter().enumerate() {
             out[at + i] = *byte;
         }
+        end
+    }
+
+    // The line with another word in the place of its first four digits. Its first eight bytes and its last eight, which meet
+    // in the middle, are copied at once.
+    fn copy_with(&self, word: u16, to: &mut [u8])
+        requires { (8 ≤ length self.now) × (length self.now ≤ 16) × (length to.old ≡ length self.now) }
+        ensures { to.new ≡ hex word ++ drop 4 self.now }
+    {
+        let rest = self.many - 8;
+        copy_eight(&self.bytes[..8], &mut to[..8]);
+        copy_eight(&self.bytes[rest..self.many], &mut to[rest..]);
+        to[0] = digit_of(word / 4096);
+        to[1] = digit_of(word / 256 % 16);
+        to[2] = digit_of(word / 16 % 16);
+        to[3] = digit_of(word % 16);
+    }
+
+    // The line with another word, at a place with room for it; the answer is the place after it.
+    pub(crate) fn put_word(&self, out: &mut [u8], at: usize, word: u16) -> usize
+        requires { (8 ≤ length self.now) × (length self.now ≤ 16) × (at + length self.now ≤ length out.old) }
+        ensures { Wrote at (hex word ++ drop 4 self.now) out.old out.new result }
+    {
+        let end = at + self.many;
+        self.copy_with(word, &mut out[at..end]);
         end
     }
 }

@@ -1,13 +1,10 @@
 -- `put_words` meets its promise: its loop by `LinesLaws`.
 -- Assumes nothing.
-use Prim.Native.Nat.{ℕ}
-use mathlib.Core.Path.{◌≡◌}
-use Rattle.list_text.specs.Text.{word_line}
 use Rattle.list_text.specs.Inside.{WordsHere}
 use Rattle.list_text.proofs.LinesLaws.{Lines}
 use Rattle.list_text.proofs.lines.put_words.Given as goal
 
 abbrev pub invariant-loop-i : goal.invariant-loop-i
-invariant-loop-i l = ((w : ℕ) × (l.line ≡ word_line l.cycle l.sub w)) × (
+invariant-loop-i l =
     (h : WordsHere l.list l.initial.places.read l.many l.initial.places.written)
-    → Lines l.list l.initial.places.read l.many l.cycle l.sub l.initial.places.written l.initial.out l.out l.places.read l.places.written l.i h)
+    → Lines l.list l.initial.places.read l.many l.cycle l.sub l.initial.places.written l.initial.out l.out l.places.read l.places.written l.i h
