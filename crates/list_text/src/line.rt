@@ -79,7 +79,7 @@ fn copy_eight(from: &[u8], to: &mut [u8])
 }
 
 impl Line {
-    fn new() -> Line
+    pub(crate) fn new() -> Line
         ensures { result ≡ [] }
     {
         Line {
@@ -152,17 +152,16 @@ impl Line {
         line
     }
 
+    // The line of a word, in an empty line: made in its place, since a line that was handed back would be copied.
     #[tactic(auto, using(crate::proofs::LineLaws::fields_few), unfolding(crate::specs::Text::word_line))]
-    pub(crate) fn of_word(cycle: u16, sub: u16, word: u16) -> Line
-        requires { (cycle < 10000) × (sub < 10000) }
-        ensures { result ≡ word_line cycle sub word }
+    pub(crate) fn push_word(&mut self, cycle: u16, sub: u16, word: u16)
+        requires { (cycle < 10000) × (sub < 10000) × (self.old ≡ []) }
+        ensures { self.new ≡ word_line cycle sub word }
     {
-        let mut line = Line::new();
-        line.push_hex(word);
-        line.push(b' ');
-        line.push_field(cycle, b' ');
-        line.push_field(sub, b'\n');
-        line
+        self.push_hex(word);
+        self.push(b' ');
+        self.push_field(cycle, b' ');
+        self.push_field(sub, b'\n');
     }
 
     // A refusal by its number.

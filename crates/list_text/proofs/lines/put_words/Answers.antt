@@ -24,7 +24,7 @@ pub put_word-places-requires : goal.put_word-places-requires
 put_word-places-requires c = let a = c.args in
     let p = a.places.now in
     let h = c.requires.2 in
-    let line : length c.of_word-line.result ≡ length (word_line a.cycle a.sub 0) = ap length c.of_word-line.ensures in (
+    let line : length c.push_word.new.self ≡ length (word_line a.cycle a.sub 0) = ap length c.push_word.ensures in (
       omega (arith, line, line_some a.cycle a.sub 0),
       omega (arith, line, line_few a.cycle a.sub 0),
       omega (
@@ -38,7 +38,7 @@ put_word-places-requires c = let a = c.args in
 pub loop-i-preserved : goal.loop-i-preserved
 loop-i-preserved c h = let a = c.args in
     let p = a.places.now in
-    let line = line_set a.cycle a.sub 0 c.sum_numbers-word.result.total _ c.of_word-line.ensures in
+    let line = line_set a.cycle a.sub 0 c.sum_numbers-word.result.total _ c.push_word.ensures in
     lines_more a.list.now p.read a.many a.cycle a.sub p.written a.out.now h _ _ _ _ (c.loop-i.invariant h) c.loop-i-test.true _ _ c.sum_numbers-word.ensures _ _
     (as_bytes _ _ _ _ _ _ line c.put_word-places.ensures) c.put_word-places.auto.out
 
