@@ -36,6 +36,19 @@ pub record WordsHere (s : List ℕ) (at many to : ℕ) : Type 0 where
   pub bytes : drop at s ≡ written words ++ rest
   pub few : Few to many
 
+-- so many words come next, then other bytes: at this place, where the text so far has room
+pub record WordsNext (s : List ℕ) (at many to room : ℕ) : Type 0 where
+  pub words : List ℕ
+  pub rest : List ℕ
+  pub long : length words ≡ many
+  pub most : Most words
+  pub bytes : to ≤ room → drop at s ≡ written words ++ rest
+  pub few : Few to many
+
+-- some lines were written, and where there was room for them the list was read as far as the bytes after them
+abbrev pub WordsPut : List ℕ → ℕ → List ℕ → List ℕ → List ℕ → List ℕ → ℕ → ℕ → Type 0
+WordsPut s to lines rest out out' r next = Wrote to lines out out' r × (r ≤ length out → drop next s ≡ rest)
+
 -- some lines were written, and the list was read as far as the bytes after them
 abbrev pub LinesPut : List ℕ → ℕ → List ℕ → List ℕ → List ℕ → List ℕ → ℕ → ℕ → Type 0
 LinesPut s to lines rest out out' r next = Wrote to lines out out' r × (drop next s ≡ rest)
