@@ -1,7 +1,7 @@
 -- What the search of a group finds: one request settles it, or both halves are searched.
 -- Assumes nothing.
 use mathlib.Core.Path.{◌≡◌, refl, sym, ap, ◌∙◌, subst}
-use mathlib.Core.Bool.{Bool, true}
+use mathlib.Core.Bool.{Bool, true, false, cond}
 use mathlib.Core.List.{List, [], ◌∷◌, ◌++◌, append-nil, append_assoc, Memᴰ}
 use Prim.Native.Nat.{ℕ, zero, suc, ◌+◌, ◌-◌, ◌%◌, ◌^◌, ◌≤◌}
 use native.Mathlib.Omega.{arith}
@@ -36,10 +36,14 @@ one_there [] w h = absurd (let z : ◌≡◌ {A = ℕ} 0 1 = cc in omega arith)
 one_there (a ∷ []) w h = (a, refl, cc)
 one_there (a ∷ b ∷ l) w h = absurd (let z : ◌≡◌ {A = ℕ} 0 1 = cc in omega arith)
 
-more_there : (l : List ℕ) → answer_to l ≡ Collision → 2 ≤ length l
+pub more_there : (l : List ℕ) → answer_to l ≡ Collision → 2 ≤ length l
 more_there [] h = absurd (let z : ◌≡◌ {A = ℕ} 0 1 = cc in omega arith)
 more_there (a ∷ []) h = absurd (let z : ◌≡◌ {A = ℕ} 0 1 = cc in omega arith)
 more_there (a ∷ b ∷ l) h = omega arith
+
+no_devices : (l : List ℕ) → length l ≡ 0 → Silence ≡ answer_to l
+no_devices [] h = refl
+no_devices (a ∷ l) h = absurd (omega arith)
 
 -- ---- one request settles it
 first_set : (out : List ℕ) (a : ℕ) → 1 ≤ length out → set out 0 a ≡ a ∷ drop 1 out
@@ -71,10 +75,7 @@ joined l h out r k e f =
     rw (d, take_at l (drop (length l) out) r e, take_all k (drop (length l) out) (omega arith), drop_all k (drop (length l) out) (omega arith), append-nil (h ++ drop (length h) (drop (length l) out)), drop-drop (length h) (length l) out, length-append l h)
     (sym (append_assoc l h (drop (length l + length h) out)))
 
-module _ (S : ℕ → Bool) (m c : ℕ) (g : is_group m c ≡ true) (e : Collision ≡ answer_to (devices S m c)) where
-  two : 2 ≤ length (devices S m c)
-  two = more_there (devices S m c) (sym e)
-
+module _ (S : ℕ → Bool) (m c : ℕ) (g : is_group m c ≡ true) (two : 2 ≤ length (devices S m c)) where
   -- a single device does not collide with itself
   pub has_halves : 1 ≤ m
   has_halves = go m (devices_few S m c)
@@ -138,6 +139,30 @@ module _ (S : ℕ → Bool) (m c : ℕ) (g : is_group m c ≡ true) (e : Collisi
             let w = found_both in
             (omega (arith, w.asked, requests_few S m c), omega (arith, w.read, devices_few S m c))
 
+-- ---- a group of two devices, and both have an event
+first_two_set : (out : List ℕ) (a b : ℕ) → 2 ≤ length out → set (set out 0 a) 1 b ≡ a ∷ b ∷ drop 2 out
+first_two_set [] a b h = absurd (omega arith)
+first_two_set (x ∷ []) a b h = absurd (omega arith)
+first_two_set (x ∷ y ∷ out) a b h = refl
+
+module _ (S : ℕ → Bool) (m c : ℕ) (one : m ≡ 1) (g : is_group m c ≡ true) (two : 2 ≤ length (devices S m c)) where
+  both_there : (i : ℕ) → i ≡ 1 → 2 ≤ length (devices S i c) → (devices S i c ≡ c ∷ (c + 2048) ∷ []) × ((search_of S i c).requests ≡ 3)
+  unfolding devices search_of
+  both_there zero e h = absurd (omega arith)
+  both_there (suc zero) e h = (go (S c) (S (c + 2048)) h, collided S 0 c h)
+    where
+      go : (a b : Bool) → 2 ≤ length (cond a (c ∷ []) [] ++ cond b ((c + 2048) ∷ []) []) → cond a (c ∷ []) [] ++ cond b ((c + 2048) ∷ []) [] ≡ c ∷ (c + 2048) ∷ []
+      go true true n = refl
+      go true false n = absurd (omega arith)
+      go false true n = absurd (omega arith)
+      go false false n = absurd (omega arith)
+  both_there (suc (suc i)) e h = absurd (omega arith)
+
+  pub found_pair : (out : List ℕ) → length (devices S m c) ≤ length out → Finds S m c out (record { requests = 3; reads = 2 }) (set (set out 0 c) 1 (c + 2048))
+  found_pair out r =
+      let (d, q) = both_there m one two in
+      record { asked = sym q; read = sym (ap length d); wrote = first_two_set out c (c + 2048) (omega arith) ∙ rw d refl }
+
 -- ---- the search of the set
 module _ (bytes out : List ℕ) (h : length bytes ≡ 512) (l : how_many (in_set bytes) 4096 ≤ length out) (marked : List ℕ) (e : marked ≡ bytes) where
   pub set_room : length (devices (in_set marked) 12 0) ≤ length out
@@ -149,3 +174,9 @@ module _ (bytes out : List ℕ) (h : length bytes ≡ 512) (l : how_many (in_set
       let f = subst (λ (k : List ℕ). Finds (in_set k) 12 0 out found out₁) e w in
       let o = finds (in_set bytes) 12 0 in
       (simp (eq-eqb _ _ h, le-ltb _ _ l) (rw (f.asked, f.read, o) refl), simp (eq-eqb _ _ h, le-ltb _ _ l) (rw o f.wrote))
+
+-- an empty set takes one request
+pub set_empty : (bytes out : List ℕ) → length bytes ≡ 512 → how_many (in_set bytes) 4096 ≡ 0 → (gives (1 ∷ 0 ∷ []) ≡ searched bytes (length out)) × (out ≡ written bytes out)
+set_empty bytes out h z =
+    let n : length (devices (in_set bytes) 12 0) ≡ 0 = set_count (in_set bytes) ∙ z in
+    set_done bytes out h (omega arith) bytes refl (found_none (in_set bytes) 12 0 out (no_devices (devices (in_set bytes) 12 0) n))
