@@ -3,7 +3,7 @@
 use mathlib.Core.Path.{◌≡◌, refl, sym, ap, ◌∙◌, subst}
 use mathlib.Core.Bool.{Bool, true, false, cond}
 use mathlib.Core.List.{List, [], ◌∷◌, ◌++◌, append-nil}
-use Prim.Native.Nat.{ℕ, zero, suc, ◌+◌, ◌-◌, ◌^◌, ◌≤◌, ◌<◌}
+use Prim.Native.Nat.{ℕ, zero, suc, ◌+◌, ◌-◌, ◌*◌, ◌^◌, ◌≤◌, ◌<◌}
 use native.Mathlib.Omega.{arith}
 use lib.Dec.{leb}
 use lib.ListN.{length, length-append}
@@ -12,6 +12,20 @@ use Rattle.groups.specs.Groups.{is_group}
 use Rattle.groups.specs.Sets.{devices}
 use Rattle.groups.proofs.Follow.{is_group_lem, group_is, in_lower, in_upper}
 use Rattle.groups.proofs.Costs.{halved}
+use Rattle.groups.proofs.Powers.{doubled}
+use Rattle.search.specs.Inside.{mark_of}
+
+-- the mark of {M, C} from the offset of the upper half of {M+1, C}
+pub offset_mark : (m c h : ℕ) → m ≤ 11 → h ≡ 2 ^ (12 - (m + 1)) → 2 * h + c ≡ mark_of m c
+offset_mark m c h t e =
+    let d : 12 - m ≡ suc (12 - (m + 1)) = omega arith in
+    let p : 2 ^ (12 - m) ≡ 2 ^ (12 - (m + 1)) + 2 ^ (12 - (m + 1)) = ap (λ (i : ℕ). 2 ^ i) d ∙ doubled (12 - (m + 1)) in
+    omega arith
+
+-- the half that has it, from that offset and the bit of the lower half
+pub offset_half : (c h bit x : ℕ) (lower : Bool) → bit ≡ cond lower 1 0 → x ≡ h * bit → c + h - x ≡ cond lower c (c + h)
+offset_half c h bit x true e f = let y : x ≡ h * 1 = f ∙ ap (λ (n : ℕ). h * n) e in omega arith
+offset_half c h bit x false e f = let y : x ≡ h * 0 = f ∙ ap (λ (n : ℕ). h * n) e in omega arith
 
 -- of two lists, with one device together, the first that has one
 split : (l k : List ℕ) (b : Bool) → leb 1 (length l) ≡ b → length (l ++ k) ≡ 1 → cond b l k ≡ l ++ k
