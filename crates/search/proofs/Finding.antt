@@ -164,19 +164,20 @@ module _ (S : ℕ → Bool) (m c : ℕ) (one : m ≡ 1) (g : is_group m c ≡ tr
       record { asked = sym q; read = sym (ap length d); wrote = first_two_set out c (c + 2048) (omega arith) ∙ rw d refl }
 
 -- ---- the search of the set
-module _ (bytes out : List ℕ) (h : length bytes ≡ 512) (l : how_many (in_set bytes) 4096 ≤ length out) (marked : List ℕ) (e : marked ≡ bytes) where
-  pub set_room : length (devices (in_set marked) 12 0) ≤ length out
-  set_room = rw e (omega (arith, set_count (in_set bytes)))
+-- there is a place for each of its devices, also where it goes by another name
+pub set_room : (bytes out : List ℕ) → how_many (in_set bytes) 4096 ≤ length out → (marked : List ℕ) → marked ≡ bytes → length (devices (in_set marked) 12 0) ≤ length out
+set_room bytes out l marked e = rw e (omega (arith, set_count (in_set bytes)))
 
-  pub set_done : {found : Found} {out₁ : List ℕ} → Finds (in_set marked) 12 0 out found out₁ → (gives (requests_and_reads found) ≡ searched bytes (length out)) × (out₁ ≡ written bytes out)
+module _ (bytes out : List ℕ) (h : length bytes ≡ 512) where
+  pub set_done : how_many (in_set bytes) 4096 ≤ length out → {found : Found} {out₁ : List ℕ} → Finds (in_set bytes) 12 0 out found out₁ →
+      (gives (requests_and_reads found) ≡ searched bytes (length out)) × (out₁ ≡ written bytes out)
   unfolding searched written
-  set_done {found} {out₁} w =
-      let f = subst (λ (k : List ℕ). Finds (in_set k) 12 0 out found out₁) e w in
+  set_done l f =
       let o = finds (in_set bytes) 12 0 in
       (simp (eq-eqb _ _ h, le-ltb _ _ l) (rw (f.asked, f.read, o) refl), simp (eq-eqb _ _ h, le-ltb _ _ l) (rw o f.wrote))
 
--- an empty set takes one request
-pub set_empty : (bytes out : List ℕ) → length bytes ≡ 512 → how_many (in_set bytes) 4096 ≡ 0 → (gives (1 ∷ 0 ∷ []) ≡ searched bytes (length out)) × (out ≡ written bytes out)
-set_empty bytes out h z =
-    let n : length (devices (in_set bytes) 12 0) ≡ 0 = set_count (in_set bytes) ∙ z in
-    set_done bytes out h (omega arith) bytes refl (found_none (in_set bytes) 12 0 out (no_devices (devices (in_set bytes) 12 0) n))
+  -- an empty set takes one request
+  pub set_empty : how_many (in_set bytes) 4096 ≡ 0 → (gives (1 ∷ 0 ∷ []) ≡ searched bytes (length out)) × (out ≡ written bytes out)
+  set_empty z =
+      let n : length (devices (in_set bytes) 12 0) ≡ 0 = set_count (in_set bytes) ∙ z in
+      set_done (omega arith) (found_none (in_set bytes) 12 0 out (no_devices (devices (in_set bytes) 12 0) n))
