@@ -91,6 +91,11 @@ pub whole : (f : ℕ) → blocks f * (block_bytes f + 1) ≡ frame_bytes f
 unfolding frame_bytes
 whole f = mul-add (blocks f) (block_bytes f) 1 ∙ ap₂ (λ (a b : ℕ). a + b) (full f) (mul-one (blocks f))
 
+-- a block of two bytes is the only one
+pub lone_word : (f : ℕ) → block_bytes f ≡ 2 → blocks f ≡ 1
+unfolding block_bytes blocks data_bytes
+lone_word f e = omega arith
+
 pub block_most : (f : ℕ) → block_bytes f ≤ 8
 unfolding block_bytes
 block_most f = omega arith
