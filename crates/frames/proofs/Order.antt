@@ -1,6 +1,6 @@
 -- A word and its check sequence as written, and that a Slave Frame that passes every check is read or written.
 -- Assumes nothing.
-use mathlib.Core.Path.{◌≡◌, ap}
+use mathlib.Core.Path.{◌≡◌, sym, ap, ◌∙◌}
 use mathlib.Core.Bool.{false}
 use mathlib.Core.List.{List, [], ◌∷◌, ◌++◌}
 use Prim.Native.Nat.{ℕ, ◌/◌, ◌%◌, ◌≤◌}
@@ -10,6 +10,7 @@ use lib.ListN.{length, set, drop}
 use Rattle.checks.specs.Check.{check_of}
 use Rattle.frames.specs.Words.{word_bytes}
 use Rattle.rows.specs.Rows.{reserved, data_bytes, blocks, block_bytes, frame_bytes}
+use Rattle.rows.proofs.Rows.{lone_word}
 use Rattle.frames.specs.Blocks.{right_blocks, framed}
 use Rattle.frames.specs.Slave.{slave_read_by, slave_write_by}
 
@@ -20,6 +21,10 @@ word_written [] word check h e = absurd (omega arith)
 word_written (x ∷ []) word check h e = absurd (omega arith)
 word_written (x ∷ y ∷ []) word check h e = absurd (omega arith)
 word_written (x ∷ y ∷ z ∷ out) word check h e = ap (λ (k : ℕ). word / 256 ∷ word % 256 ∷ k ∷ out) e
+
+-- of an F_code's count and size: a block of two bytes is the only one
+pub one_word : (f : ℕ) {count size : ℕ} → count ≡ blocks f → size ≡ block_bytes f → size ≡ 2 → count ≡ 1
+one_word f c s e = c ∙ lone_word f (sym s ∙ e)
 
 -- ---- Slave Frames: all done
 
