@@ -1,9 +1,9 @@
 -- Tables: the bytes of their records, their goodness, and the places of their ports.
 -- Assumes nothing.
-use mathlib.Core.Path.{◌≡◌, refl, sym, ap, ◌∙◌}
+use mathlib.Core.Path.{◌≡◌, refl, sym, ap, ap₂, ◌∙◌}
 use mathlib.Core.Bool.{Bool, true, false, cond, and-eq-true_iff}
 use mathlib.Core.List.{List, [], ◌∷◌, ◌++◌}
-use Prim.Native.Nat.{ℕ, suc, ◌+◌, ◌*◌, ◌≤◌}
+use Prim.Native.Nat.{ℕ, suc, ◌+◌, ◌*◌, ◌≤◌, ◌<◌}
 use native.Mathlib.Nat.{add-zero, zero-add, add_assoc}
 use native.Mathlib.Omega.{arith}
 use borrow.Author.Tests.{leb-true}
@@ -57,3 +57,21 @@ place_most a [] = omega arith
 place_most a (p ∷ ps) = by_cases (eqb p.address a)
     (λ t. let z : length (cond (eqb p.address a) [] (p ∷ before a ps)) ≡ 0 = simp t in omega arith)
     (λ f. let z : length (cond (eqb p.address a) [] (p ∷ before a ps)) ≡ suc (place_of a ps) = simp f in omega (arith, place_most a ps))
+
+-- a port that was found stays where it is, whatever records follow
+pub before_found : (a : ℕ) (ps qs : List Port) → place_of a ps < length ps → before a (ps ++ qs) ≡ before a ps
+unfolding before
+before_found a [] qs h = absurd (omega arith)
+before_found a (p ∷ ps) qs h = by_cases (eqb p.address a)
+    (λ t. ap₂ (λ (b : Bool) (l : List Port). cond b [] (p ∷ l)) t refl ∙ sym (ap (λ (b : Bool). cond b [] (p ∷ before a ps)) t))
+    (λ f. let z : length (cond (eqb p.address a) [] (p ∷ before a ps)) ≡ suc (place_of a ps) = simp f in
+    ap (λ (l : List Port). cond (eqb p.address a) [] (p ∷ l)) (before_found a ps qs (omega arith)))
+
+-- a port that was not found is looked for in what follows
+pub before_missed : (a : ℕ) (ps qs : List Port) → length ps ≤ place_of a ps → before a (ps ++ qs) ≡ ps ++ before a qs
+unfolding before
+before_missed a [] qs h = refl
+before_missed a (p ∷ ps) qs h = by_cases (eqb p.address a)
+    (λ t. let z : length (cond (eqb p.address a) [] (p ∷ before a ps)) ≡ 0 = simp t in absurd (omega arith))
+    (λ f. let z : length (cond (eqb p.address a) [] (p ∷ before a ps)) ≡ suc (place_of a ps) = simp f in
+    ap (λ (b : Bool). cond b [] (p ∷ before a (ps ++ qs))) f ∙ ap (λ (l : List Port). p ∷ l) (before_missed a ps qs (omega arith)))
