@@ -7,7 +7,17 @@ use native.Mathlib.Omega.{arith}
 use borrow.Rule.Slice.PartMut.{put_mid, put_same}
 use lib.ListN.{length, length-append, get_or, take, drop, length-drop, drop_of_length-le, get_or-append}
 use lib.Seq.{take_all, take-length, take_at, drop_at, drop-drop, length-take-le, get_or-take, get_or-drop, get_or-append-add}
+use Rattle.std.specs.Prelude.{Some}
+use Rattle.rows.specs.Rows.{data_bytes}
+use Rattle.port_table.specs.declared.Port.{Port}
+use Rattle.port_table.specs.declared.Place.{Place}
+use Rattle.port_table.specs.declared.Seen.{Seen}
+use Rattle.port_table.specs.Table.{table_bytes}
+use Rattle.port_table.specs.Seen.{seen_of}
+use Rattle.port_table.proofs.Tables.{bytes_most, good_split}
+use Rattle.port_table.proofs.Walk.{shown_good}
 use Rattle.ports.specs.Lent.{replaced}
+use Rattle.ports.proofs.Found.{shown_at}
 
 -- what a copy to the front of an output leaves
 abbrev pub front : List ℕ → List ℕ → List ℕ
@@ -53,6 +63,14 @@ put_is store new v o h e =
 
 pub part_length : (at size : ℕ) (l : List ℕ) → at + size ≤ length l → length (take (at + size - at) (drop at l)) ≡ size
 part_length at size l h = let d : length (drop at l) ≡ length l - at = length-drop at l in length-take-le (at + size - at) (drop at l) (omega arith) ∙ (let z : at + size - at ≡ size = omega arith in z)
+
+-- a port that a walk of a good table found lies within 8,192 bytes
+pub place_small : (s : Seen) (p : Place) (a : ℕ) (ps : List Port) → Some s ≡ seen_of a ps → s.place ≡ Some p → (n : ℕ) → n ≡ data_bytes p.port.f_code → p.offset + n ≤ 8192
+place_small s p a ps e f n k =
+    let g = shown_good s a ps e in
+    let h = shown_at s p a ps e f in
+    let b : s.bytes ≡ table_bytes ps = ap (λ (t : Seen). t.bytes) g.1 in
+    omega (arith, h.3, h.4, bytes_most ps, (good_split ps g.0).0)
 
 -- ---- bytes replaced
 
