@@ -8,7 +8,7 @@ use native.Mathlib.Omega.{arith}
 use native.Mathlib.Decide.{dec_le}
 use lib.Bits.{bit_or, bit_and}
 use lib.Dec.{leb, lit≤}
-use lib.ListN.{length, length-append, length-drop, length-set, length-replicate, get_or, drop, set, replicate}
+use lib.ListN.{length, length-append, length-drop, length-set, length-replicate, get_or, get_or-eq_default, drop, set, replicate}
 use lib.Pow.{pow_mono, pow-add}
 use lib.Seq.{get_or-drop, get_or-set_same, get_or-set_other, drop-set-lt, ext_get_or}
 use Rattle.groups.specs.Groups.{is_group}
@@ -219,6 +219,10 @@ get_or-zeros : (n i : ℕ) → ◌≡◌ {A = ℕ} (get_or (replicate n 0) i 0) 
 get_or-zeros zero i = refl
 get_or-zeros (suc n) zero = refl
 get_or-zeros (suc n) (suc i) = get_or-zeros n i
+
+-- no mark is set behind 512 bytes
+pub beyond : (l : List ℕ) (i : ℕ) → length l ≡ 512 → 4096 ≤ i → in_set l i ≡ false
+beyond l i e h = no_bit _ (i % 8) (get_or-eq_default l 0 {n = i / 8} (omega arith))
 
 -- the set as it was copied
 pub set_marked : (any : List ℕ) → length any ≡ 1024 → Marked (drop 512 any) any (replicate 1024 0) 0
