@@ -3,15 +3,16 @@
 use mathlib.Core.Path.{◌≡◌, refl, sym, ap, ap₂, ◌∙◌, subst}
 use mathlib.Core.Bool.{Bool, true, false}
 use mathlib.Core.List.{List, [], ◌∷◌, ◌++◌, append_assoc, append-nil}
-use Prim.Native.Nat.{ℕ, zero, suc, ◌+◌, ◌*◌, ◌/◌, ◌%◌, ◌^◌, ◌<◌}
-use native.Mathlib.Nat.{add-suc, zero-add, suc-add, pow-succ'}
+use Prim.Native.Nat.{ℕ, zero, suc, ◌+◌, ◌-◌, ◌*◌, ◌/◌, ◌%◌, ◌^◌, ◌≤◌, ◌<◌}
+use native.Mathlib.Nat.{add-suc, zero-add, suc-add, zero-mul, add_assoc, mul_assoc, add-mul, pow-succ'}
 use native.Mathlib.Numerals.{add-one}
 use native.Mathlib.Omega.{arith}
 use lib.Arith.{mod-mul, digits_lt}
-use lib.Pow.{pow_pos, high, low, field, mod-mod-pow}
+use lib.Pow.{pow_pos, pow-add, high, low, field, mod-mod-pow}
 use lib.Bits.{bit_xor, xor_shr, xor_mod}
 use lib.Dec.{eqb}
-use lib.ListN.{length, length-append}
+use lib.ListN.{length, get_or, take, drop, length-append, length-drop, take-append-drop}
+use lib.Seq.{take-suc, take_all}
 use Rattle.checks.specs.Bits.{bits, bits_of, one, number}
 use Rattle.checks.specs.Check.{plus, add}
 
@@ -105,6 +106,18 @@ bits_of_append (x ∷ a) b = ap (λ (l : List Bool). bits 8 x ++ l) (bits_of_app
 pub bits_of_snoc : (a : List ℕ) (b : ℕ) → bits_of (a ++ (b ∷ [])) ≡ bits_of a ++ bits 8 b
 bits_of_snoc a b = bits_of_append a (b ∷ []) ∙ ap (λ (l : List Bool). bits_of a ++ l) (append-nil (bits 8 b))
 
+-- ---- bytes as one number
+
+-- one run of bits behind another
+pub number_append : (l m : List Bool) → number (l ++ m) ≡ number l * 2 ^ length m + number m
+number_append [] m = omega (arith, zero-mul (2 ^ length m))
+number_append (b ∷ l) m =
+    ap₂ (λ (x y : ℕ). x + y)
+    (ap (λ (k : ℕ). one b * 2 ^ k) (length-append l m) ∙ ap (λ (x : ℕ). one b * x) (pow-add 2 (length l) (length m)) ∙ sym (mul_assoc (one b) (2 ^ length l) (2 ^ length m)))
+    (number_append l m)
+    ∙ sym (add_assoc (one b * 2 ^ length l * 2 ^ length m) (number l * 2 ^ length m) (number m))
+    ∙ ap (λ (x : ℕ). x + number m) (sym (add-mul (one b * 2 ^ length l) (number l) (2 ^ length m)))
+
 pub length_bits_of : (d : List ℕ) → length (bits_of d) ≡ 8 * length d
 length_bits_of [] = refl
 length_bits_of (x ∷ d) =
@@ -112,3 +125,56 @@ length_bits_of (x ∷ d) =
     let a : length (bits 8 x ++ bits_of d) ≡ length (bits 8 x) + length (bits_of d) = length-append (bits 8 x) (bits_of d) in
     let b : length (bits 8 x) ≡ 8 = length_bits 8 x in
     omega arith
+
+-- one byte more
+pub number_next : (bytes : List ℕ) (i : ℕ) → i < length bytes → get_or bytes i 0 < 256
+    → number (bits_of (take i bytes)) * 256 + get_or bytes i 0 ≡ number (bits_of (take (i + 1) bytes))
+number_next bytes i h g =
+    sym (ap (λ (k : ℕ). number (bits_of (take k bytes))) (add-one i)
+    ∙ ap (λ (l : List ℕ). number (bits_of l)) (take-suc bytes i 0 h)
+    ∙ ap number (bits_of_snoc (take i bytes) (get_or bytes i 0))
+    ∙ number_append (bits_of (take i bytes)) (bits 8 (get_or bytes i 0))
+    ∙ ap₂ (λ (k x : ℕ). number (bits_of (take i bytes)) * 2 ^ k + x) (length_bits 8 (get_or bytes i 0)) (number_byte (get_or bytes i 0) g))
+
+-- the number of a byte of a run, and that it is one
+abbrev pub IsByte : ℕ → List ℕ → ℕ → Type 0
+IsByte n bytes i = (n ≡ get_or bytes i 0) × (n < 256)
+
+number_more : (bytes : List ℕ) (i n b : ℕ) → i < length bytes → n ≡ number (bits_of (take i bytes)) → IsByte b bytes i → n * 256 + b ≡ number (bits_of (take (i + 1) bytes))
+number_more bytes i n b h e w = rw (e, w.0) (number_next bytes i h (rw (sym w.0) w.1))
+
+-- two bytes
+pub number_pair : (bytes : List ℕ) (a b : ℕ) → 2 ≤ length bytes → IsByte a bytes 0 → IsByte b bytes 1 → a * 256 + b ≡ number (bits_of (take 2 bytes))
+number_pair bytes a b h wa wb =
+    number_more bytes 1 a b (omega arith) (sym (zero-add a) ∙ number_more bytes 0 0 a (omega arith) refl wa) wb
+
+-- a word, by its two bytes
+pub number_word : (word : ℕ) → word < 65536 → word ≡ number (bits_of (word / 256 ∷ word % 256 ∷ []))
+number_word word h =
+    let e : word ≡ word / 256 * 256 + word % 256 = omega arith in
+    e ∙ number_pair (word / 256 ∷ word % 256 ∷ []) (word / 256) (word % 256) (omega arith) (refl, omega arith) (refl, omega arith)
+
+-- four bytes
+pub number_four : (bytes : List ℕ) (a b c d : ℕ) → length bytes ≡ 4 → IsByte a bytes 0 → IsByte b bytes 1 → IsByte c bytes 2 → IsByte d bytes 3
+    → ((a * 256 + b) * 256 + c) * 256 + d ≡ number (bits_of bytes)
+number_four bytes a b c d h wa wb wc wd =
+    number_more bytes 3 ((a * 256 + b) * 256 + c) d (omega arith) (number_more bytes 2 (a * 256 + b) c (omega arith) (number_pair bytes a b (omega arith) wa wb) wc) wd
+    ∙ ap (λ (l : List ℕ). number (bits_of l)) (take_all 4 bytes (omega arith))
+
+-- ---- bytes in two halves
+
+second_half : (k : ℕ) (bytes : List ℕ) → take (length bytes - k) (drop k bytes) ≡ drop k bytes
+second_half k bytes = take_all (length bytes - k) (drop k bytes) (let e : length (drop k bytes) ≡ length bytes - k = length-drop k bytes in omega arith)
+
+length_second : (k : ℕ) (bytes : List ℕ) → length bytes ≡ 2 * k → length (drop k bytes) ≡ k
+length_second k bytes h = length-drop k bytes ∙ omega arith
+
+-- one half behind the other
+pub number_halves : (k high low : ℕ) (bytes : List ℕ) → length bytes ≡ 2 * k → high ≡ number (bits_of (take k bytes)) → low ≡ number (bits_of (take (length bytes - k) (drop k bytes)))
+    → high * 2 ^ (8 * k) + low ≡ number (bits_of bytes)
+number_halves k high low bytes h eh el =
+    rw (eh, el, second_half k bytes)
+    (ap (λ (n : ℕ). number (bits_of (take k bytes)) * 2 ^ n + number (bits_of (drop k bytes)))
+    (sym (length_bits_of (drop k bytes) ∙ ap (λ (n : ℕ). 8 * n) (length_second k bytes h)))
+    ∙ sym (number_append (bits_of (take k bytes)) (bits_of (drop k bytes)))
+    ∙ ap number (sym (bits_of_append (take k bytes) (drop k bytes)) ∙ ap bits_of (take-append-drop k bytes)))
