@@ -90,6 +90,14 @@ cycles_most ms = go (eqb ms 1)
     go true = omega arith
     go false = omega arith
 
+-- a Macro Cycle has at most 1,024 Basic Periods
+pub periods_most : (ms : ℕ) → periods_of ms ≤ 1024
+periods_most ms = go (eqb ms 1)
+  where
+    go : (t : Bool) → by_ms t 1024 512 ≤ 1024
+    go true = omega arith
+    go false = omega arith
+
 pub periods_power : (ms : ℕ) → periods_of ms ≡ 2 ^ (cycles_of ms - 1)
 periods_power ms = go (eqb ms 1)
   where
