@@ -1,6 +1,6 @@
 -- Numerals and lines: their digits by what they count, and how long they can be.
 -- Assumes nothing.
-use Prim.Native.Nat.{ℕ, zero, suc, ◌+◌, ◌/◌, ◌%◌, ◌≤◌, ◌<◌}
+use Prim.Native.Nat.{ℕ, ◌+◌, ◌/◌, ◌%◌, ◌≤◌, ◌<◌}
 use mathlib.Core.Path.{◌≡◌, refl, ap, sym, ◌∙◌}
 use mathlib.Core.Logic.{⊎_elim}
 use mathlib.Core.List.{List, [], ◌∷◌, ◌++◌, append_assoc}
@@ -165,19 +165,6 @@ decimal_pushed s n h =
     ∙ ap (λ (x : List ℕ). s ++ x) (sym (decimal_places n h))
 
 pub ruleset places_few = (length-append, place_few, decimal_pushed)
-
--- a line's first four bytes set
-pub four_set : (bytes : List ℕ) (many a b c d : ℕ) → 4 ≤ many → many ≤ length bytes
-    → take many (set (set (set (set bytes 0 a) 1 b) 2 c) 3 d) ≡ (a ∷ b ∷ c ∷ d ∷ []) ++ drop 4 (take many bytes)
-four_set (w ∷ x ∷ y ∷ z ∷ bytes) (suc (suc (suc (suc many)))) a b c d l h = refl
-four_set [] many a b c d l h = absurd (omega arith)
-four_set (w ∷ []) many a b c d l h = absurd (omega arith)
-four_set (w ∷ x ∷ []) many a b c d l h = absurd (omega arith)
-four_set (w ∷ x ∷ y ∷ []) many a b c d l h = absurd (omega arith)
-four_set (w ∷ x ∷ y ∷ z ∷ bytes) zero a b c d l h = absurd (omega arith)
-four_set (w ∷ x ∷ y ∷ z ∷ bytes) (suc zero) a b c d l h = absurd (omega arith)
-four_set (w ∷ x ∷ y ∷ z ∷ bytes) (suc (suc zero)) a b c d l h = absurd (omega arith)
-four_set (w ∷ x ∷ y ∷ z ∷ bytes) (suc (suc (suc zero))) a b c d l h = absurd (omega arith)
 
 -- a line with another word in its first four digits is that word's line
 pub line_set : (cycle sub w v : ℕ) (line : List ℕ) → line ≡ word_line cycle sub w → hex v ++ drop 4 line ≡ word_line cycle sub v

@@ -60,7 +60,8 @@ pub(crate) fn word_length(cycle: u16, sub: u16) -> usize
     digits(cycle) + digits(sub) + 7
 }
 
-// Copies eight bytes. All are read before one is written, so that they can move at once.
+// Copies eight bytes. All are read before one is written, so that they can move at once. Beside the `copy_block` of frames,
+// since one for both would be a public function.
 fn copy_eight(from: &[u8], to: &mut [u8])
     requires { (length from.now ≡ 8) × (length to.old ≡ 8) }
     ensures { to.new ≡ from.now }
@@ -200,8 +201,8 @@ impl Line {
         end
     }
 
-    // The line with another word in the place of its first four digits. Its first eight bytes and its last eight, which meet
-    // in the middle, are copied at once.
+    // The line with another word in the place of its first four digits. It is copied as its first eight bytes and its last
+    // eight, which overlap: each is one move, where a copy as long as the line would be a call.
     fn copy_with(&self, word: u16, to: &mut [u8])
         requires { (8 ≤ length self.now) × (length self.now ≤ 16) × (length to.old ≡ length self.now) }
         ensures { to.new ≡ hex word ++ drop 4 self.now }
