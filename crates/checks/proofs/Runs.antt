@@ -11,7 +11,7 @@ use lib.ListN.{length, replicate, length-append, length-replicate}
 use Rattle.checks.specs.Bits.{bits, bits_of, one, number}
 use Rattle.checks.specs.Check.{plus, add, divided, remainder, odd, plain, check_bits, check_of}
 use Rattle.checks.proofs.Polynomials.{same, plus_false, add_comm, add_append, add_zeros, zeros_add, length_add, divided_zeros, divided_more, mix, length_remainder}
-use Rattle.checks.proofs.Numbers.{length_bits, length_bits_of, bits_number, bits_xor, one-lt, number_lt, number_append, number_byte, number_pair, byte_number, number_byte_lt, bits_of_snoc}
+use Rattle.checks.proofs.Numbers.{length_bits, length_bits_of, bits_number, bits_xor, one-lt, number_lt, number_append, number_byte, number_pair, byte_number, number_byte_lt, bits_of_append, bits_of_snoc}
 use Rattle.checks.proofs.Parity.{odd_append, odd_add, odd_zeros, length_plain}
 use Rattle.checks.proofs.Shifts.{bits_small}
 use Rattle.checks.proofs.Distance.{plain_add}
@@ -170,6 +170,31 @@ plain_next bytes byte p r h e g =
     ∙ number_add (plain x) (replicate 7 false ++ (o ∷ [])) (length_plain x) refl
     ∙ ap number (sym (plain_more m b 1 (length_bits 8 byte)))
     ∙ ap (λ (l : List Bool). number (plain l)) (sym (bits_of_snoc bytes byte))
+
+-- bytes more, by the check bits so far: what is left of them joins the first
+pub plain_bytes : (before : List ℕ) (p byte r : ℕ) (bytes : List ℕ) → p ≡ number (plain (bits_of before)) → r ≡ number (plain (bits_of (bit_xor (p - p % 2) byte ∷ bytes)))
+    → bit_xor r (p % 2) ≡ number (plain (bits_of (before ++ (byte ∷ bytes))))
+plain_bytes before p byte r bytes e g =
+    let m : List Bool = bits_of before in
+    let b : List Bool = bits_of bytes in
+    let k : ℕ = length b in
+    let o : Bool = odd (m ++ remainder m) in
+    let split : p ≡ number (remainder m) * 2 + one o = e ∙ parts m in
+    let bit : one o < 2 = one-lt o in
+    let rest : p - p % 2 ≡ number (remainder m) * 2 = omega arith in
+    let last : p % 2 ≡ one o = omega arith in
+    let eight : length (bits 8 byte) ≡ 8 = length_bits 8 byte in
+    let x : List Bool = add (remainder m ++ replicate (suc k) false) (bits 8 byte ++ b) in
+    let joined : bits_of (bit_xor (p - p % 2) byte ∷ bytes) ≡ x =
+    ap (λ (l : List Bool). l ++ b) (bits_xor 8 (p - p % 2) byte)
+    ∙ ap (λ (l : List Bool). add (bits 8 (p - p % 2)) (bits 8 byte) ++ l) (sym (zeros_add k b refl))
+    ∙ sym (add_append (replicate k false) b (same (bits 8 (p - p % 2)) (bits 8 byte) (length_bits 8 (p - p % 2) ∙ sym eight)))
+    ∙ ap (λ (l : List Bool). add (l ++ replicate k false) (bits 8 byte ++ b)) (ap (bits 8) rest ∙ rest_byte m)
+    ∙ ap (λ (l : List Bool). add l (bits 8 byte ++ b)) (append_assoc (remainder m) (false ∷ []) (replicate k false)) in
+    ap₂ bit_xor (g ∙ ap (λ (l : List Bool). number (plain l)) joined) (last ∙ lone o)
+    ∙ number_add (plain x) (replicate 7 false ++ (o ∷ [])) (length_plain x) refl
+    ∙ ap number (sym (plain_more m (bits 8 byte ++ b) (suc k) (omega (arith, length-append (bits 8 byte) b))))
+    ∙ ap (λ (l : List Bool). number (plain l)) (sym (bits_of_append before (byte ∷ bytes)))
 
 -- a bit more changes the last bit alone
 pub last_bit_xor : (r b : ℕ) → b < 2 → bit_xor r b ≡ r / 2 * 2 + bit_xor (r % 2) b

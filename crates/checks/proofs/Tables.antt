@@ -1,24 +1,29 @@
 -- The table of what each byte leaves of check bits, against the definition, and sums of its entries.
 -- Assumes nothing.
-use Rattle.std.proofs.Common.{◌≡◌, ℕ, zero, suc, ◌+◌, ◌-◌, ◌*◌, ◌/◌, ◌<◌, ◌≤◌, Bool, false, List, [], ◌∷◌, ◌++◌, map, refl, sym, ap, ap₂, ◌∙◌, arith, length, get_or, take, replicate, bit_xor, bit_and, count_ones, zero-add, append_assoc, length-append, ◌%◌}
+use Rattle.std.proofs.Common.{◌≡◌, ℕ, zero, suc, ◌+◌, ◌-◌, ◌*◌, ◌/◌, ◌<◌, ◌≤◌, Bool, false, List, [], ◌∷◌, ◌++◌, map, refl, sym, ap, ap₂, ◌∙◌, arith, length, get_or, take, replicate, bit_xor, bit_and, count_ones, zero-add, append_assoc, ◌%◌}
 use Rattle.std.proofs.lemmas.Nat.{xor_lt}
-use Rattle.std.specs.Int.Bits.{xor_assoc}
 use Rattle.std.proofs.Math.Seq.{take-suc}
-use Rattle.std.proofs.lemmas.List.{ext_get_or, take_all, take_at}
+use Rattle.std.proofs.lemmas.List.{ext_get_or, take_all}
 use Rattle.std.proofs.lemmas.List.FromFn.{get_or-map-range_with_len, length-map-range_with_len}
 use Rattle.std.specs.List.{range_with_len}
 use Rattle.checks.specs.declared.TheConstants.{LEFT}
 use Rattle.checks.specs.Bits.{bits, bits_of, number}
 use Rattle.checks.specs.Check.{plus, add, plain, remainder, odd}
-use Rattle.checks.proofs.Polynomials.{same, plus_comm, plus_false, add_assoc, add_append, add_zeros, zeros_add, length_remainder}
-use Rattle.checks.proofs.Numbers.{length_bits, length_bits_of, bits_xor, bits_of_append, bits_of_snoc, number_byte}
+use Rattle.checks.proofs.Polynomials.{same, plus_comm, plus_false, add_assoc, add_append, add_zeros, length_remainder}
+use Rattle.checks.proofs.Numbers.{length_bits, length_bits_of, bits_xor, bits_of_snoc, number_byte, number_byte_lt}
 use Rattle.checks.proofs.Parity.{odd_append, odd_add, length_plain}
-use Rattle.checks.proofs.Runs.{remainder_more, plain_append}
+use Rattle.checks.proofs.Runs.{remainder_more, plain_append, plain_bytes}
 
 -- what is computed at each number below n
 pub below : {X : Type 0} (f g : ℕ → X) (n : ℕ) → map f (range_with_len 0 n) ≡ map g (range_with_len 0 n) → (i : ℕ) → i < n → f i ≡ g i
 below f g n e i h =
     sym (get_or-map-range_with_len f 0 n i i (f 0) h (zero-add i)) ∙ ap (λ l. get_or l i (f 0)) e ∙ get_or-map-range_with_len g 0 n i i (f 0) h (zero-add i)
+
+-- the bits of one byte more
+bits_next : (bytes : List ℕ) (i n : ℕ) → i < length bytes → n ≡ i + 1 → bits_of (take n bytes) ≡ bits_of (take i bytes) ++ bits 8 (get_or bytes i 0)
+bits_next bytes i n h e =
+    let s : n ≡ suc i = omega arith in
+    ap (λ k. bits_of (take k bytes)) s ∙ ap bits_of (take-suc bytes i 0 h) ∙ bits_of_snoc (take i bytes) (get_or bytes i 0)
 
 -- the entry of a byte with k bytes behind it
 abbrev pub entry : ℕ → ℕ → ℕ
@@ -109,61 +114,25 @@ pub sum_left : (n : ℕ) (block : List ℕ) → length block ≡ n → n ≤ 8 �
     → sum_of (first_bytes n block) ≡ number (plain (bits_of block))
 sum_left n block h g small = ap sum_of (all_bytes n block h) ∙ number_is (sum_of block) (plain (bits_of block)) (sum_lt block (omega arith) small) (sum_bits block (omega arith) small)
 
--- ---- bytes after bytes
+-- ---- byte after byte
+
+rests : (byte : ℕ) → byte < 256 → bits 8 (bit_and (entry 0 byte) 254) ≡ remainder (bits 8 byte) ++ (false ∷ [])
+unfolding bits plain remainder
+rests = below (λ b. bits 8 (bit_and (entry 0 b) 254)) (λ b. remainder (bits 8 b) ++ (false ∷ [])) 256 refl
 
 -- the remainder so far, with a zero behind it
 abbrev pub Rest : ℕ → List ℕ → Type 0
 Rest rest bytes = bits 8 rest ≡ remainder (bits_of bytes) ++ (false ∷ [])
 
--- the last bit, cleared
-masked : (n : ℕ) → n < 256 → bits 8 (bit_and n 254) ≡ take 7 (bits 8 n) ++ (false ∷ [])
-unfolding bits
-masked = below (λ n. bits 8 (bit_and n 254)) (λ n. take 7 (bits 8 n) ++ (false ∷ [])) 256 refl
-
--- check bits with a zero in place of the parity
-without_parity : (n : ℕ) (l : List Bool) → n < 256 → bits 8 n ≡ plain l → bits 8 (bit_and n 254) ≡ remainder l ++ (false ∷ [])
-unfolding plain
-without_parity n l h e =
-    masked n h
-    ∙ ap (λ (p : List Bool). take 7 p ++ (false ∷ [])) e
-    ∙ ap (λ (p : List Bool). p ++ (false ∷ [])) (take_at (remainder l) (odd (l ++ remainder l) ∷ []) 7 (length_remainder l))
-
--- the remainder so far joins the next byte, with others behind it
-joined : (m : List Bool) (rest byte : ℕ) (bytes : List ℕ) → bits 8 rest ≡ remainder m ++ (false ∷ [])
-    → remainder (bits_of (bit_xor rest byte ∷ bytes)) ≡ remainder (m ++ bits_of (byte ∷ bytes))
-joined m rest byte bytes e =
-    let b : List Bool = bits_of bytes in
-    let k : ℕ = length b in
-    let eight : length (bits 8 byte) ≡ 8 = length_bits 8 byte in
-    let both : length (bits 8 byte ++ b) ≡ length (bits 8 byte) + k = length-append (bits 8 byte) b in
-    ap (λ (l : List Bool). remainder (l ++ b)) (bits_xor 8 rest byte)
-    ∙ ap (λ (l : List Bool). remainder (add (bits 8 rest) (bits 8 byte) ++ l)) (sym (zeros_add k b refl))
-    ∙ ap remainder (sym (add_append (replicate k false) b (same (bits 8 rest) (bits 8 byte) (length_bits 8 rest ∙ sym eight))))
-    ∙ ap (λ (l : List Bool). remainder (add (l ++ replicate k false) (bits 8 byte ++ b))) e
-    ∙ ap (λ (l : List Bool). remainder (add l (bits 8 byte ++ b))) (append_assoc (remainder m) (false ∷ []) (replicate k false))
-    ∙ sym (remainder_more m (bits 8 byte ++ b) (suc k) (omega arith))
-
--- what a byte and up to seven others leave of the remainder
-rest_after : (before : List ℕ) (rest byte : ℕ) (bytes : List ℕ) → length bytes ≤ 7 → rest < 256 → byte < 256 → ((i : ℕ) → get_or bytes i 0 < 256)
-    → Rest rest before → Rest (bit_and (sum_of (bit_xor rest byte ∷ bytes)) 254) (before ++ (byte ∷ bytes))
-rest_after before rest byte bytes h r b small inv =
-    let l : List ℕ = bit_xor rest byte ∷ bytes in
-    without_parity (sum_of l) (bits_of l) (sum_lt l (omega arith) all_small) (sum_bits l (omega arith) all_small)
-    ∙ ap (λ (p : List Bool). p ++ (false ∷ [])) (joined (bits_of before) rest byte bytes inv ∙ ap remainder (sym (bits_of_append before (byte ∷ bytes))))
-  where
-    all_small : (i : ℕ) → get_or (bit_xor rest byte ∷ bytes) i 0 < 256
-    all_small zero = xor_lt 8 rest byte r b
-    all_small (suc i) = small i
-
--- a byte more
-take_one : (bytes : List ℕ) (i n : ℕ) → i < length bytes → n ≡ i + 1 → take n bytes ≡ take i bytes ++ (get_or bytes i 0 ∷ [])
-take_one bytes i n h e = let s : n ≡ suc i = omega arith in ap (λ k. take k bytes) s ∙ take-suc bytes i 0 h
-
 pub rest_next : (bytes : List ℕ) (i n rest : ℕ) → i < length bytes → n ≡ i + 1 → rest < 256 → get_or bytes i 0 < 256 → Rest rest (take i bytes)
     → Rest (bit_and (entry 0 (bit_xor rest (get_or bytes i 0))) 254) (take n bytes)
 rest_next bytes i n rest h e r b inv =
-    rest_after (take i bytes) rest (get_or bytes i 0) [] (omega arith) r b (λ k. omega arith) inv
-    ∙ ap (λ (l : List ℕ). remainder (bits_of l) ++ (false ∷ [])) (sym (take_one bytes i n h e))
+    let byte : ℕ = get_or bytes i 0 in
+    let m : List Bool = bits_of (take i bytes) in
+    rests (bit_xor rest byte) (xor_lt 8 rest byte r b)
+    ∙ ap (λ (l : List Bool). remainder l ++ (false ∷ [])) (bits_xor 8 rest byte ∙ ap (λ l. add l (bits 8 byte)) inv)
+    ∙ ap (λ (l : List Bool). l ++ (false ∷ [])) (sym (remainder_more m (bits 8 byte) 1 (length_bits 8 byte)))
+    ∙ ap (λ (l : List Bool). remainder l ++ (false ∷ [])) (sym (bits_next bytes i n h e))
 
 pub ones_next : (bytes : List ℕ) (i n ones : ℕ) → i < length bytes → n ≡ i + 1 → odd (bits 8 ones) ≡ odd (bits_of (take i bytes))
     → odd (bits 8 (bit_xor ones (get_or bytes i 0))) ≡ odd (bits_of (take n bytes))
@@ -171,31 +140,7 @@ ones_next bytes i n ones h e inv =
     let byte : ℕ = get_or bytes i 0 in
     ap odd (bits_xor 8 ones byte) ∙ odd_add (same (bits 8 ones) (bits 8 byte) (length_bits 8 ones ∙ sym (length_bits 8 byte)))
     ∙ ap (λ o. plus o (odd (bits 8 byte))) inv
-    ∙ sym (odd_append (bits_of (take i bytes)) (bits 8 byte))
-    ∙ ap odd (sym (ap bits_of (take_one bytes i n h e) ∙ bits_of_snoc (take i bytes) byte))
-
--- two bytes more
-pub rest_two : (bytes : List ℕ) (i n rest : ℕ) → i + 1 < length bytes → n ≡ i + 2 → rest < 256 → ((k : ℕ) → get_or bytes k 0 < 256) → Rest rest (take i bytes)
-    → Rest (bit_and (bit_xor (entry 1 (bit_xor rest (get_or bytes i 0))) (entry 0 (get_or bytes (i + 1) 0))) 254) (take n bytes)
-rest_two bytes i n rest h e r small inv =
-    rest_after (take i bytes) rest (get_or bytes i 0) (get_or bytes (i + 1) 0 ∷ []) (omega arith) r (small i) alone inv
-    ∙ ap (λ (l : List ℕ). remainder (bits_of l) ++ (false ∷ [])) (sym two)
-  where
-    alone : (k : ℕ) → get_or (get_or bytes (i + 1) 0 ∷ []) k 0 < 256
-    alone zero = small (i + 1)
-    alone (suc k) = omega arith
-
-    two : take n bytes ≡ take i bytes ++ (get_or bytes i 0 ∷ get_or bytes (i + 1) 0 ∷ [])
-    two =
-        take_one bytes (i + 1) n h (omega arith)
-        ∙ ap (λ (l : List ℕ). l ++ (get_or bytes (i + 1) 0 ∷ [])) (take_one bytes i (i + 1) (omega arith) refl)
-        ∙ append_assoc (take i bytes) (get_or bytes i 0 ∷ []) (get_or bytes (i + 1) 0 ∷ [])
-
-pub ones_two : (bytes : List ℕ) (i n ones : ℕ) → i + 1 < length bytes → n ≡ i + 2 → odd (bits 8 ones) ≡ odd (bits_of (take i bytes))
-    → odd (bits 8 (bit_xor ones (bit_xor (get_or bytes i 0) (get_or bytes (i + 1) 0)))) ≡ odd (bits_of (take n bytes))
-ones_two bytes i n ones h e inv =
-    ap (λ (k : ℕ). odd (bits 8 k)) (sym (xor_assoc ones (get_or bytes i 0) (get_or bytes (i + 1) 0)))
-    ∙ ones_next bytes (i + 1) n (bit_xor ones (get_or bytes i 0)) h (omega arith) (ones_next bytes i (i + 1) ones (omega arith) refl inv)
+    ∙ sym (odd_append (bits_of (take i bytes)) (bits 8 byte)) ∙ ap odd (sym (bits_next bytes i n h e))
 
 parity : (i : ℕ) → i < 256 → bits 8 (count_ones i % 2) ≡ replicate 7 false ++ (odd (bits 8 i) ∷ [])
 unfolding bits lib.Count.ones
@@ -222,14 +167,49 @@ pub with_parity : (block : List ℕ) (n rest ones : ℕ) → length block ≤ n 
 with_parity block n rest ones h hr ho er eo =
     number_is _ _ (xor_lt 8 rest _ hr (omega arith)) (parity_bits (take n block) rest ones hr ho er eo) ∙ ap (λ l. number (plain (bits_of l))) (take_all n block h)
 
--- the same after one byte more
-pub with_last : (block : List ℕ) (n rest ones r o : ℕ) → n + 1 ≡ length block → rest < 256 → r < 256 → o < 256 → ((k : ℕ) → get_or block k 0 < 256)
-    → Rest rest (take n block) → odd (bits 8 ones) ≡ odd (bits_of (take n block))
-    → r ≡ bit_and (entry 0 (bit_xor rest (get_or block (length block - 1) 0))) 254 → o ≡ bit_xor ones (get_or block (length block - 1) 0)
-    → bit_xor r (count_ones (bit_xor r o) % 2) ≡ number (plain (bits_of block))
-with_last block n rest ones r o e hrest hr ho small inv even er eo =
-    let at : length block - 1 ≡ n = omega arith in
-    let last : get_or block (length block - 1) 0 ≡ get_or block n 0 = ap (λ (i : ℕ). get_or block i 0) at in
-    with_parity block (n + 1) r o (omega arith) hr ho
-    (ap (bits 8) (er ∙ ap (λ (b : ℕ). bit_and (entry 0 (bit_xor rest b)) 254) last) ∙ rest_next block n (n + 1) rest (omega arith) refl hrest (small n) inv)
-    (ap (λ (k : ℕ). odd (bits 8 k)) (eo ∙ ap (bit_xor ones) last) ∙ ones_next block n (n + 1) ones (omega arith) refl even)
+-- ---- bytes more, by the check bits so far
+
+more : (before : List ℕ) (p byte : ℕ) (bytes : List ℕ) → length bytes ≤ 7 → byte < 256 → ((i : ℕ) → get_or bytes i 0 < 256) → p ≡ number (plain (bits_of before))
+    → bit_xor (sum_of (bit_xor (p - p % 2) byte ∷ bytes)) (p % 2) ≡ number (plain (bits_of (before ++ (byte ∷ bytes))))
+more before p byte bytes h b small e =
+    let l : List ℕ = bit_xor (p - p % 2) byte ∷ bytes in
+    let s : p < 256 = rw e (number_byte_lt (plain (bits_of before)) (length_plain (bits_of before))) in
+    plain_bytes before p byte (sum_of l) bytes e (number_is (sum_of l) (plain (bits_of l)) (sum_lt l (omega arith) (all_small s)) (sum_bits l (omega arith) (all_small s)))
+  where
+    all_small : p < 256 → (i : ℕ) → get_or (bit_xor (p - p % 2) byte ∷ bytes) i 0 < 256
+    all_small s zero = xor_lt 8 (p - p % 2) byte (omega arith) b
+    all_small s (suc i) = small i
+
+take_one : (bytes : List ℕ) (i n : ℕ) → i < length bytes → n ≡ i + 1 → take n bytes ≡ take i bytes ++ (get_or bytes i 0 ∷ [])
+take_one bytes i n h e = let s : n ≡ suc i = omega arith in ap (λ k. take k bytes) s ∙ take-suc bytes i 0 h
+
+pub more_one : (bytes : List ℕ) (i n p : ℕ) → i < length bytes → n ≡ i + 1 → get_or bytes i 0 < 256 → p ≡ number (plain (bits_of (take i bytes)))
+    → bit_xor (entry 0 (bit_xor (p - p % 2) (get_or bytes i 0))) (p % 2) ≡ number (plain (bits_of (take n bytes)))
+more_one bytes i n p h e b inv =
+    more (take i bytes) p (get_or bytes i 0) [] (omega arith) b (λ k. omega arith) inv
+    ∙ ap (λ (l : List ℕ). number (plain (bits_of l))) (sym (take_one bytes i n h e))
+
+pub more_two : (bytes : List ℕ) (i n p : ℕ) → i + 1 < length bytes → n ≡ i + 2 → ((k : ℕ) → get_or bytes k 0 < 256) → p ≡ number (plain (bits_of (take i bytes)))
+    → bit_xor (bit_xor (entry 1 (bit_xor (p - p % 2) (get_or bytes i 0))) (entry 0 (get_or bytes (i + 1) 0))) (p % 2) ≡ number (plain (bits_of (take n bytes)))
+more_two bytes i n p h e small inv =
+    more (take i bytes) p (get_or bytes i 0) (get_or bytes (i + 1) 0 ∷ []) (omega arith) (small i) alone inv
+    ∙ ap (λ (l : List ℕ). number (plain (bits_of l))) (sym two)
+  where
+    alone : (k : ℕ) → get_or (get_or bytes (i + 1) 0 ∷ []) k 0 < 256
+    alone zero = small (i + 1)
+    alone (suc k) = omega arith
+
+    two : take n bytes ≡ take i bytes ++ (get_or bytes i 0 ∷ get_or bytes (i + 1) 0 ∷ [])
+    two =
+        take_one bytes (i + 1) n h (omega arith)
+        ∙ ap (λ (l : List ℕ). l ++ (get_or bytes (i + 1) 0 ∷ [])) (take_one bytes i (i + 1) (omega arith) refl)
+        ∙ append_assoc (take i bytes) (get_or bytes i 0 ∷ []) (get_or bytes (i + 1) 0 ∷ [])
+
+-- the last byte
+pub more_last : (bytes : List ℕ) (i p : ℕ) → i + 1 ≡ length bytes → ((k : ℕ) → get_or bytes k 0 < 256) → p ≡ number (plain (bits_of (take i bytes)))
+    → bit_xor (entry 0 (bit_xor (p - p % 2) (get_or bytes (length bytes - 1) 0))) (p % 2) ≡ number (plain (bits_of bytes))
+more_last bytes i p e small inv =
+    let at : length bytes - 1 ≡ i = omega arith in
+    ap (λ (k : ℕ). bit_xor (entry 0 (bit_xor (p - p % 2) (get_or bytes k 0))) (p % 2)) at
+    ∙ more_one bytes i (i + 1) p (omega arith) refl (small i) inv
+    ∙ ap (λ (l : List ℕ). number (plain (bits_of l))) (take_all (i + 1) bytes (omega arith))

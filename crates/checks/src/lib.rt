@@ -169,25 +169,22 @@ static LEFT: [[u8; 256]; 8] = [
     ],
 ];
 
-// The check bits of a block of any length, two bytes at a time: the remainder so far joins the first of the two, and what the
-// second leaves is looked up beside it. Byte after byte, each lookup would wait for the one before.
+// The check bits of a block of any length, two bytes at a time: the remainder so far joins the first of the two, the parity so
+// far joins theirs, and what the second leaves is looked up beside it. Byte after byte, each lookup would wait for the one
+// before.
 fn plain_by_bytes(block: &[u8]) -> u8
     ensures { result ≡ number (plain (bits_of block.now)) }
 {
-    let mut rest = 0;
-    let mut ones = 0;
+    let mut so_far = 0;
     for i in 0..block.len() / 2 {
-        let first = block[2 * i];
-        let second = block[2 * i + 1];
-        rest = (LEFT[1][(rest ^ first) as usize] ^ LEFT[0][second as usize]) & 0xfe;
-        ones ^= first ^ second;
+        let joined = (so_far - so_far % 2) ^ block[2 * i];
+        so_far = LEFT[1][joined as usize] ^ LEFT[0][block[2 * i + 1] as usize] ^ so_far % 2;
     }
     if block.len() % 2 == 1 {
-        let last = block[block.len() - 1];
-        rest = LEFT[0][(rest ^ last) as usize] & 0xfe;
-        ones ^= last;
+        let joined = (so_far - so_far % 2) ^ block[block.len() - 1];
+        so_far = LEFT[0][joined as usize] ^ so_far % 2;
     }
-    rest ^ ((rest ^ ones).count_ones() % 2) as u8
+    so_far
 }
 
 // The check bits of a block. Those of a frame's blocks, of two, four or eight bytes, are the sum of what each byte leaves,

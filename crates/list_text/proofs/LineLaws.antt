@@ -8,7 +8,7 @@ use mathlib.Core.Bool.{Bool, true, false, cond}
 use native.Mathlib.Omega.{arith}
 use borrow.Author.Tests.{lt-ltb, le-ltb, le-leb, lt-leb}
 use lib.Dec.{ltb, leb}
-use lib.ListN.{length, take, drop, set, length-append}
+use lib.ListN.{length, drop, length-append}
 use Rattle.std.proofs.lemmas.Bool.{cases_lt}
 use Rattle.list_text.specs.Text.{digit, two, decimal, hex, space, newline, field, header_line, word_line, refused_line}
 use Rattle.list_text.specs.Inside.{place}
